@@ -1,0 +1,51 @@
+-- The book, and when it is well formed.
+use Prim.Native.Nat.{ℕ, _≤_, _<_}
+use mathlib.Core.Path.{_≡_}
+use mathlib.Core.Bool.{Bool, true, false}
+use mathlib.Core.List.{List, List·Memᴰ}
+use lib.ListN.{length, take}
+use Rattle.rules.specs.declared.Row.{Row}
+use Rattle.rules.specs.declared.Book.{Book}
+use Rattle.rules.specs.Limits.{day, rowLimit, ticketLimit}
+use Rattle.rules.specs.Map.{Yard}
+use Rattle.rules.specs.Rows.{noRow, rowAt, Rising, load, crosses}
+use Rattle.rules.specs.Plan.{Stay, Plan, runRows}
+
+-- "A row's ranges are: place and next on the map, entry and exit to 86,400, ticket at least 1 and below the next number."
+pub record Ranges (Y : Yard) (next-ticket : ℕ) (r : Row) : Type 0 where
+  pub place : r .place < Y .places
+  pub next : r .next < Y .places
+  pub entry : r .entry ≤ day
+  pub exit : r .exit ≤ day
+  pub ticket-from : 1 ≤ r .ticket
+  pub ticket-to : r .ticket < next-ticket
+
+-- a ticket's rows are a whole plan: the plan's rows are booked, and no others of this ticket
+pub record Whole (Y : Yard) (rows : List Row) (ticket : ℕ) : Type 0 where
+  pub plan : List Stay
+  pub is-plan : Plan Y plan
+  pub booked : (r : Row) → List·Memᴰ r (runRows ticket plan) → List·Memᴰ r rows
+  pub only : (r : Row) → List·Memᴰ r rows → r .ticket ≡ ticket → List·Memᴰ r (runRows ticket plan)
+
+pub record WellFormed (Y : Yard) (rows : List Row) (next-ticket : ℕ) : Type 0 where
+  -- "A book holds at most 1,024 rows in strictly rising key order, and the next ticket number, 1 to 1,000,000."
+  pub few : length rows ≤ rowLimit
+  pub rising : Rising rows
+  pub ticket-from : 1 ≤ next-ticket
+  pub ticket-to : next-ticket ≤ ticketLimit
+  pub ranges : (i : ℕ) → i < length rows → Ranges Y next-ticket (rowAt rows i)
+  -- "A well-formed book has each ticket's rows as a whole plan of its own on the map (the second s being its first entry)"
+  pub whole : (r : Row) → List·Memᴰ r rows → Whole Y rows (r .ticket)
+  -- "with load and exchange kept among all rows"
+  pub room : (p t : ℕ) → p < Y .places → load rows p t ≤ Y .cap p
+  pub exchange : (r : Row) → List·Memᴰ r rows → (r .next ≡ r .place → ⊥) → crosses rows (r .next) (r .place) (r .exit) ≡ false
+
+-- the rows of the array form, those that the count names
+abbrev pub rowsOf : Book → List Row
+rowsOf b = take (b .count) (b .rows)
+
+pub record GoodBook (Y : Yard) (b : Book) : Type 0 where
+  pub fits : b .count ≤ rowLimit
+  -- "Slots past the count hold zeros."
+  pub spare : (i : ℕ) → b .count ≤ i → i < rowLimit → rowAt (b .rows) i ≡ noRow
+  pub formed : WellFormed Y (rowsOf b) (b .«next_ticket»)

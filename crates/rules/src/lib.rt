@@ -1,0 +1,103 @@
+// What the barn's papers speak of: map, row, book, cursor and answers, each with its limits.
+// What they mean stands in specs/.
+ghost use mathlib.Core.Path.{_≡_};
+ghost use Rattle.rules.specs.Rows.{cursorKey, firstKey};
+
+pub struct Place {
+    pub capacity: u8,
+    pub duration: u16,
+}
+
+pub struct Link {
+    pub from: u8,
+    pub to: u8,
+}
+
+pub struct Map {
+    pub places: [Place; 256],
+    pub links: [Link; 1024],
+    pub place_count: usize,
+    pub link_count: usize,
+}
+
+impl Map {
+    pub const PLACES: usize = 256;
+
+    pub const LINKS: usize = 1024;
+
+    pub const CAPACITY: u8 = 16;
+
+    pub const DURATION: u32 = 3600;
+
+    pub const DAY: u32 = 86400;
+}
+
+pub struct Row {
+    pub place: u8,
+    pub entry: u32,
+    pub ticket: u32,
+    pub exit: u32,
+    pub next: u8,
+}
+
+impl Row {
+    pub const BYTES: usize = 11;
+}
+
+pub struct Book {
+    pub rows: [Row; 1024],
+    pub count: usize,
+    pub next_ticket: u32,
+}
+
+impl Book {
+    pub const ROWS: usize = 1024;
+
+    pub const TICKETS: u32 = 1000000;
+}
+
+pub struct Cursor {
+    pub place: u32,
+    pub entry: u32,
+    pub ticket: u32,
+}
+
+impl Cursor {
+    pub const PAGE: u32 = 64;
+
+    // "The first cursor is place 0, entry 0, ticket 0."
+    pub fn first() -> Self
+        ensures { λ r. ⌜ cursorKey r ≡ firstKey ⌝ }
+    {
+        Cursor {
+            place: 0,
+            entry: 0,
+            ticket: 0,
+        }
+    }
+}
+
+pub enum Refusal {
+    BadMap,
+    BadBook,
+    OffMap,
+    OffDay,
+    NoPlan,
+    ShortList,
+    FullBook,
+    NoTickets,
+    UnknownTicket,
+    BadSize,
+    BadCursor,
+    BadFrame,
+}
+
+pub struct Trip {
+    pub arrival: u32,
+    pub count: usize,
+}
+
+pub enum Planned {
+    Done(Trip),
+    Refused(Refusal),
+}
