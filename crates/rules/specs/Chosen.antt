@@ -5,7 +5,7 @@ use mathlib.Core.List.{List, [], _∷_}
 use Rattle.rules.specs.declared.Row.{Row}
 use Rattle.rules.specs.Map.{Yard}
 use Rattle.rules.specs.Plan.{Stay}
-use Rattle.rules.specs.Window.{Span, Earliest, Yields}
+use Rattle.rules.specs.Window.{Span, Enters, Earliest, Yields}
 
 -- (a, b, c) is at most (a′, b′, c′), compared in that order
 pub record LexLe (a b c a′ b′ c′ : ℕ) : Type 0 where
@@ -14,11 +14,11 @@ pub record LexLe (a b c a′ b′ c′ : ℕ) : Type 0 where
   pub three : a ≡ a′ → b ≡ b′ → c ≤ c′
 
 module _ (Y : Yard) (rows : List Row) (start dest s : ℕ) where
-  -- "The chosen one ends in the destination window of least earliest entry."
+  -- "The chosen one ends in the destination window of least earliest entry": no window of the destination is entered sooner.
   pub record Goal (w : Span) (e : ℕ) : Type 0 where
     pub at-dest : w .place ≡ dest
     pub earliest : Earliest Y rows start s w e
-    pub least : (v : Span) (t : ℕ) → v .place ≡ dest → Earliest Y rows start s v t → e ≤ t
+    pub least : (v : Span) (t : ℕ) → v .place ≡ dest → Enters Y rows start s v t → e ≤ t
 
   -- "The window before any window is the one that yields its earliest entry; among several, the one with the least
   -- (earliest entry, place, window start)."
