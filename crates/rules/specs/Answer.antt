@@ -2,7 +2,8 @@
 use Prim.Native.Nat.{ℕ, _+_, _*_, _/_, _%_, _≤_, _<_}
 use mathlib.Core.Path.{_≡_}
 use mathlib.Core.Logic.{_⊎_}
-use mathlib.Core.List.{List, [], _∷_, _++_}
+use mathlib.Core.Bool.{Bool, false}
+use mathlib.Core.List.{List, [], _∷_, _++_, List·Memᴰ}
 use lib.ListN.{length, drop}
 use Rattle.rules.specs.declared.Row.{Row}
 use Rattle.rules.specs.declared.Map.{Map}
@@ -11,10 +12,21 @@ use Rattle.rules.specs.declared.Refusal.{Refusal}
 use Rattle.rules.specs.declared.Refusal.the-variants.{BadMap, BadBook, OffMap, OffDay, NoPlan, ShortList, FullBook, NoTickets, UnknownTicket, BadSize, BadCursor, BadFrame}
 use Rattle.rules.specs.declared.Planned.{Planned}
 use Rattle.rules.specs.declared.Planned.the-variants.{Done, Refused}
-use Rattle.rules.specs.Limits.{day}
+use Rattle.rules.specs.declared.Booked.{Booked}
+use Rattle.rules.specs.declared.Booked.the-variants.{Done as Issues, Refused as NotBooked}
+use Rattle.rules.specs.declared.Cancelled.{Cancelled}
+use Rattle.rules.specs.declared.Cancelled.the-variants.{Done as Removes, Refused as NotCancelled}
+use Rattle.rules.specs.declared.Paged.{Paged}
+use Rattle.rules.specs.declared.Paged.the-variants.{Done as Shows, Refused as NotShown}
+use Rattle.rules.specs.declared.Booking.{Booking}
+use Rattle.rules.specs.declared.Cancelling.{Cancelling}
+use Rattle.rules.specs.declared.Cursor.{Cursor}
+use Rattle.rules.specs.Limits.{day, rowLimit, ticketLimit, pageLimit}
+use Rattle.rules.specs.Rows.{Key, cursorKey, firstKey, keep, insertAll}
+use Rattle.rules.specs.Page.{pageRows, pageMore, lastKey}
 use Rattle.rules.specs.Map.{Yard, GoodMap, mapYard}
 use Rattle.rules.specs.Plan.{Stay, arrival, Permitted, runRows}
-use Rattle.rules.specs.Book.{GoodBook, rowsOf}
+use Rattle.rules.specs.Book.{GoodBook, rowsOf, bookOf, ofTicket, otherTicket}
 use Rattle.rules.specs.Chosen.{Chosen}
 
 -- the table's numbers
@@ -102,3 +114,141 @@ module _ (map-ok book-ok : Type 0) (Y : Yard) (rows : List Row) (start dest s : 
 
 abbrev pub PlanIs : Map → Book → ℕ → ℕ → ℕ → List ℕ → List ℕ → Planned → Type 0
 PlanIs m b start dest s was out r = PlanSays (GoodMap m) (GoodBook (mapYard m) b) (mapYard m) (rowsOf b) start dest s was out r
+
+-- ---- book
+
+abbrev pub bookedNumber : Booked → ℕ
+bookedNumber (Issues i) = 0
+bookedNumber (NotBooked r) = number r
+
+abbrev pub bookedTicket : Booked → ℕ
+bookedTicket (Issues i) = i .ticket
+bookedTicket (NotBooked r) = 0
+
+abbrev pub bookedArrival : Booked → ℕ
+bookedArrival (Issues i) = i .arrival
+bookedArrival (NotBooked r) = 0
+
+abbrev pub bookedCount : Booked → ℕ
+bookedCount (Issues i) = i .count
+bookedCount (NotBooked r) = 0
+
+-- the numbers returned, and the book after
+pub record BookingIs (n k a c : ℕ) (book : Book) (r : Booking) : Type 0 where
+  pub code : bookedNumber (r .answer) ≡ n
+  pub issues : bookedTicket (r .answer) ≡ k
+  pub arrives : bookedArrival (r .answer) ≡ a
+  pub counts : bookedCount (r .answer) ≡ c
+  pub holds : r .book ≡ book
+
+abbrev pub BookRefused : ℕ → Book → Booking → Type 0
+BookRefused n b r = BookingIs n 0 0 0 b r
+
+-- "Book: the same plan under the next ticket, rows put in order, next ticket up by one; returns ticket, arrival and count."
+abbrev pub BookDone : List Stay → Book → Booking → Type 0
+BookDone plan b r =
+    BookingIs 0 (b .«next_ticket») (arrival plan) (length plan)
+    (bookOf (insertAll (runRows (b .«next_ticket») plan) (rowsOf b)) (b .«next_ticket» + 1)) r
+
+-- "book 1, 2, 3, 4, 8, 5, 7"
+abbrev pub BookIs : Map → Book → ℕ → ℕ → ℕ → Booking → Type 0
+BookIs m b start dest s r =
+    Unless (GoodMap m) (BookRefused 1 b r)
+    (Unless (GoodBook (mapYard m) b) (BookRefused 2 b r)
+    (Unless ((start < mapYard m .places) × (dest < mapYard m .places)) (BookRefused 3 b r)
+    (Unless (s ≤ day) (BookRefused 4 b r)
+    (Unless (b .«next_ticket» < ticketLimit) (BookRefused 8 b r)
+    (Unless ((plan : List Stay) × Permitted (mapYard m) (rowsOf b) start dest s plan) (BookRefused 5 b r)
+    ((plan : List Stay) × Chosen (mapYard m) (rowsOf b) start dest s plan
+    × Unless (b .count + length plan ≤ rowLimit) (BookRefused 7 b r)
+    (BookDone plan b r)))))))
+
+-- ---- cancel
+
+abbrev pub cancelledNumber : Cancelled → ℕ
+cancelledNumber (Removes c) = 0
+cancelledNumber (NotCancelled r) = number r
+
+abbrev pub cancelledCount : Cancelled → ℕ
+cancelledCount (Removes c) = c
+cancelledCount (NotCancelled r) = 0
+
+pub record CancellingIs (n c : ℕ) (book : Book) (r : Cancelling) : Type 0 where
+  pub code : cancelledNumber (r .answer) ≡ n
+  pub counts : cancelledCount (r .answer) ≡ c
+  pub holds : r .book ≡ book
+
+abbrev pub CancelRefused : ℕ → Book → Cancelling → Type 0
+CancelRefused n b r = CancellingIs n 0 b r
+
+-- "Cancel: removes a ticket's rows, closes the gap, returns their count"
+abbrev pub CancelDone : ℕ → Book → Cancelling → Type 0
+CancelDone ticket b r = CancellingIs 0 (length (keep (ofTicket ticket) (rowsOf b))) (bookOf (keep (otherTicket ticket) (rowsOf b)) (b .«next_ticket»)) r
+
+-- a row of the book has this ticket
+pub record Known (rows : List Row) (ticket : ℕ) : Type 0 where
+  pub row : Row
+  pub booked : List·Memᴰ row rows
+  pub has : row .ticket ≡ ticket
+
+-- "cancel 1, 2, 9"
+abbrev pub CancelIs : Map → Book → ℕ → Cancelling → Type 0
+CancelIs m b ticket r =
+    Unless (GoodMap m) (CancelRefused 1 b r)
+    (Unless (GoodBook (mapYard m) b) (CancelRefused 2 b r)
+    (Unless (Known (rowsOf b) ticket) (CancelRefused 9 b r)
+    (CancelDone ticket b r)))
+
+-- ---- page
+
+abbrev pub pagedNumber : Paged → ℕ
+pagedNumber (Shows s) = 0
+pagedNumber (NotShown r) = number r
+
+abbrev pub pagedCount : Paged → ℕ
+pagedCount (Shows s) = s .count
+pagedCount (NotShown r) = 0
+
+abbrev pub pagedMore : Paged → Bool
+pagedMore (Shows s) = s .more
+pagedMore (NotShown r) = false
+
+abbrev pub pagedCursor : Paged → Key
+pagedCursor (Shows s) = cursorKey (s .cursor)
+pagedCursor (NotShown r) = firstKey
+
+-- the numbers returned, and what the caller's list then holds
+pub record PagingIs (n c : ℕ) (more : Bool) (k : Key) (list out : List ℕ) (r : Paged) : Type 0 where
+  pub code : pagedNumber r ≡ n
+  pub counts : pagedCount r ≡ c
+  pub says : pagedMore r ≡ more
+  pub hands : pagedCursor r ≡ k
+  pub holds : out ≡ list
+
+abbrev pub PageRefused : ℕ → List ℕ → List ℕ → Paged → Type 0
+PageRefused n was out r = PagingIs n 0 false firstKey was out r
+
+-- "out come the rows with keys above the cursor, .. with their count and whether the book has more after them"
+abbrev pub PageDone : List Row → ℕ → Key → List ℕ → List ℕ → Paged → Type 0
+PageDone rows size k was out r =
+    PagingIs 0 (length (pageRows size k rows)) (pageMore size k rows) (lastKey k (pageRows size k rows)) (written (pageRows size k rows) was) out r
+
+-- "11: cursor place not on the map, entry above 86,400 or ticket above 999,999"
+pub record CursorFits (Y : Yard) (k : Key) : Type 0 where
+  pub place : k .place < Y .places
+  pub entry : k .entry ≤ day
+  pub ticket : k .ticket < ticketLimit
+
+-- "page 1, 2, 10, 11, 6"
+module _ (map-ok book-ok : Type 0) (Y : Yard) (rows : List Row) (size : ℕ) (k : Key) (was out : List ℕ) (r : Paged) where
+  abbrev pub PageSays : Type 0
+  PageSays =
+      Unless map-ok (PageRefused 1 was out r)
+      (Unless book-ok (PageRefused 2 was out r)
+      (Unless ((1 ≤ size) × (size ≤ pageLimit)) (PageRefused 10 was out r)
+      (Unless (CursorFits Y k) (PageRefused 11 was out r)
+      (Unless (size ≤ records was) (PageRefused 6 was out r)
+      (PageDone rows size k was out r)))))
+
+abbrev pub PageIs : Map → Book → ℕ → Key → List ℕ → List ℕ → Paged → Type 0
+PageIs m b size k was out r = PageSays (GoodMap m) (GoodBook (mapYard m) b) (mapYard m) (rowsOf b) size k was out r

@@ -1,9 +1,10 @@
 -- The book, and when it is well formed.
-use Prim.Native.Nat.{ℕ, _≤_, _<_}
+use Prim.Native.Nat.{ℕ, _-_, _≤_, _<_}
 use mathlib.Core.Path.{_≡_}
-use mathlib.Core.Bool.{Bool, true, false}
-use mathlib.Core.List.{List, List·Memᴰ}
-use lib.ListN.{length, take}
+use mathlib.Core.Bool.{Bool, true, false, not}
+use mathlib.Core.List.{List, _++_, List·Memᴰ}
+use lib.ListN.{length, take, replicate}
+use lib.Dec.{eqb}
 use Rattle.rules.specs.declared.Row.{Row}
 use Rattle.rules.specs.declared.Book.{Book}
 use Rattle.rules.specs.Limits.{day, rowLimit, ticketLimit}
@@ -49,3 +50,14 @@ pub record GoodBook (Y : Yard) (b : Book) : Type 0 where
   -- "Slots past the count hold zeros."
   pub spare : (i : ℕ) → b .count ≤ i → i < rowLimit → rowAt (b .rows) i ≡ noRow
   pub formed : WellFormed Y (rowsOf b) (b .«next_ticket»)
+
+-- the array form of these rows
+abbrev pub bookOf : List Row → ℕ → Book
+bookOf rows next-ticket = record { rows = rows ++ replicate (rowLimit - length rows) noRow; count = length rows; «next_ticket» = next-ticket }
+
+-- the rows of a ticket, and the others
+abbrev pub ofTicket : ℕ → Row → Bool
+ofTicket ticket r = eqb (r .ticket) ticket
+
+abbrev pub otherTicket : ℕ → Row → Bool
+otherTicket ticket r = not (ofTicket ticket r)

@@ -3,6 +3,7 @@ pub mod Map
 pub mod Rows
 pub mod Plan
 pub mod Book
+pub mod Page
 pub mod Window
 pub mod Chosen
 pub mod Answer

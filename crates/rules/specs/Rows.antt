@@ -1,7 +1,7 @@
 -- Rows: keys and their order, the load of a place, crossings.
 use Prim.Native.Nat.{ℕ, _+_, _<_}
 use mathlib.Core.Path.{_≡_}
-use mathlib.Core.Bool.{Bool, true, false, _&&_, _||_}
+use mathlib.Core.Bool.{Bool, true, false, _&&_, _||_, not}
 use mathlib.Core.List.{List, [], _∷_}
 use lib.ListN.{length, getD}
 use lib.Dec.{eqb, leb, ltb}
@@ -35,6 +35,17 @@ pub data Less (a b : Key) : Type 0 where
   by-entry : a .place ≡ b .place → a .entry < b .entry → Less a b
   by-ticket : a .place ≡ b .place → a .entry ≡ b .entry → a .ticket < b .ticket → Less a b
 
+-- the same as a test
+abbrev pub lex : Bool → Bool → Bool → Bool
+lex true up rest = true
+lex false true rest = false
+lex false false rest = rest
+
+unfoldable pub lessb : Key → Key → Bool
+lessb a b =
+    lex (ltb (a .place) (b .place)) (ltb (b .place) (a .place))
+    (lex (ltb (a .entry) (b .entry)) (ltb (b .entry) (a .entry)) (ltb (a .ticket) (b .ticket)))
+
 -- "in strictly rising key order"
 pub record Rising (rows : List Row) : Type 0 where
   pub rise : (i j : ℕ) → i < j → j < length rows → Less (rowKey (rowAt rows i)) (rowKey (rowAt rows j))
@@ -56,3 +67,26 @@ load (r ∷ rows) p t = bit (covers (r .place) (r .entry) (r .exit) p t) + load 
 unfoldable pub crosses : List Row → ℕ → ℕ → ℕ → Bool
 crosses [] p q t = false
 crosses (r ∷ rows) p q t = (eqb (r .place) p && (eqb (r .next) q && eqb (r .exit) t)) || crosses rows p q t
+
+-- the rows that a test keeps, in their order
+abbrev pub choose : Bool → Row → List Row → List Row
+choose true r rows = r ∷ rows
+choose false r rows = rows
+
+abbrev pub keep : (Row → Bool) → List Row → List Row
+keep f [] = []
+keep f (r ∷ rows) = choose (f r) r (keep f rows)
+
+-- a row put before the first whose key is above its own
+abbrev pub putBefore : Bool → Row → Row → List Row → List Row → List Row
+putBefore true r x rows more = r ∷ (x ∷ rows)
+putBefore false r x rows more = x ∷ more
+
+abbrev pub insertRow : Row → List Row → List Row
+insertRow r [] = r ∷ []
+insertRow r (x ∷ rows) = putBefore (lessb (rowKey r) (rowKey x)) r x rows (insertRow r rows)
+
+-- "rows put in order": several rows, one after the other
+abbrev pub insertAll : List Row → List Row → List Row
+insertAll [] rows = rows
+insertAll (r ∷ new) rows = insertAll new (insertRow r rows)

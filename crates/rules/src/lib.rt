@@ -101,3 +101,40 @@ pub enum Planned {
     Done(Trip),
     Refused(Refusal),
 }
+
+pub struct Issued {
+    pub ticket: u32,
+    pub arrival: u32,
+    pub count: usize,
+}
+
+pub enum Booked {
+    Done(Issued),
+    Refused(Refusal),
+}
+
+pub struct Booking {
+    pub book: Book,
+    pub answer: Booked,
+}
+
+pub enum Cancelled {
+    Done(usize),
+    Refused(Refusal),
+}
+
+pub struct Cancelling {
+    pub book: Book,
+    pub answer: Cancelled,
+}
+
+pub struct Shown {
+    pub count: usize,
+    pub more: bool,
+    pub cursor: Cursor,
+}
+
+pub enum Paged {
+    Done(Shown),
+    Refused(Refusal),
+}

@@ -1,0 +1,82 @@
+-- What the arrays of numbers stand for: places, links, rows, windows.
+use Prim.Native.Nat.{ℕ, zero, suc, _+_, _*_, _/_, _%_, _≤_, _<_}
+use mathlib.Core.Path.{_≡_}
+use mathlib.Core.Bool.{Bool, true, false}
+use mathlib.Core.List.{List}
+use lib.Dec.{eqb}
+use Rattle.laws.specs.Lists.{at, tabulate}
+use Rattle.rules.specs.declared.Place.{Place}
+use Rattle.rules.specs.declared.Link.{Link}
+use Rattle.rules.specs.declared.Row.{Row}
+use Rattle.rules.specs.Map.{Yard, yardOf}
+use Rattle.rules.specs.Window.{Span}
+
+-- ---- the map: capacity C and duration D of each place, from F and to T of each link
+
+abbrev pub placesIn : List ℕ → List ℕ → ℕ → List Place
+placesIn C D n = tabulate n (λ p. record { capacity = at C p; duration = at D p })
+
+abbrev pub linksIn : List ℕ → List ℕ → ℕ → List Link
+linksIn F T k = tabulate k (λ j. record { from = at F j; to = at T j })
+
+abbrev pub yardIn : List ℕ → List ℕ → ℕ → List ℕ → List ℕ → ℕ → Yard
+yardIn C D n F T k = yardOf (placesIn C D n) (linksIn F T k)
+
+-- a yard that has the places of the arrays, whatever its links
+pub record Of (Y : Yard) (C D : List ℕ) (n : ℕ) : Type 0 where
+  pub places : Y .places ≡ n
+  pub caps : (p : ℕ) → p < n → Y .cap p ≡ at C p
+  pub durs : (p : ℕ) → p < n → Y .dur p ≡ at D p
+  pub off : (p : ℕ) → n ≤ p → Y .cap p ≡ 0
+  pub long : (p : ℕ) → 0 < Y .dur p
+
+-- one more than the last of the first k links that leaves p, 0 where none does
+unfoldable pub lastBefore : List ℕ → ℕ → ℕ → ℕ
+lastBefore F p zero = 0
+lastBefore F p (suc k) = elim (eqb (at F k) p) [ true ↦ suc k | false ↦ lastBefore F p k ]
+
+-- links by place: H has each place's last link, N each link's one before it of the same place, each with one added
+pub record Chained (F : List ℕ) (k : ℕ) (H N : List ℕ) : Type 0 where
+  pub head : (p : ℕ) → p < 256 → at H p ≡ lastBefore F p k
+  pub link : (j : ℕ) → j < k → at N j ≡ lastBefore F (at F j) j
+
+-- ---- the book: a key is place * 2^48 + entry * 2^24 + ticket, so that key order is number order
+
+abbrev pub placeOf : ℕ → ℕ
+placeOf key = key / 281474976710656
+
+abbrev pub entryOf : ℕ → ℕ
+entryOf key = key / 16777216 % 16777216
+
+abbrev pub ticketOf : ℕ → ℕ
+ticketOf key = key % 16777216
+
+abbrev pub keyOf : ℕ → ℕ → ℕ → ℕ
+keyOf place entry ticket = place * 281474976710656 + entry * 16777216 + ticket
+
+abbrev pub rowOf : ℕ → ℕ → ℕ → Row
+rowOf key exit next = record { place = placeOf key; entry = entryOf key; ticket = ticketOf key; exit = exit; next = next }
+
+abbrev pub rowsIn : List ℕ → List ℕ → List ℕ → ℕ → List Row
+rowsIn K X N count = tabulate count (λ i. rowOf (at K i) (at X i) (at N i))
+
+-- keys of a place below 256, an entry and a ticket below 2^24; exits below 2^24
+pub record Packed (K X : List ℕ) : Type 0 where
+  pub keys : (i : ℕ) → at K i < 72057594037927936
+  pub exits : (i : ℕ) → at X i < 16777216
+
+-- keys strictly rising as numbers
+pub record KeysRise (K : List ℕ) (count : ℕ) : Type 0 where
+  pub rise : (i j : ℕ) → i < j → j < count → at K i < at K j
+
+-- ---- windows: place P, first second S, end E
+
+abbrev pub spanAt : List ℕ → List ℕ → List ℕ → ℕ → Span
+spanAt P S E i = record { place = at P i; from = at S i; to = at E i }
+
+-- things in order of place: those of p are numbered from at F p to at F (p + 1)
+pub record Grouped (place : ℕ → ℕ) (F : List ℕ) (n w : ℕ) : Type 0 where
+  pub begins : at F 0 ≡ 0
+  pub ends : at F n ≡ w
+  pub up : (p : ℕ) → p < n → at F p ≤ at F (p + 1)
+  pub of : (p i : ℕ) → p < n → at F p ≤ i → i < at F (p + 1) → place i ≡ p
