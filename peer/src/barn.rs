@@ -178,8 +178,12 @@ fn whole_plan(map: &Map, run: &[Row]) -> bool {
 /// At each second each place holds at most its capacity.
 pub fn load_kept(map: &Map, book: &Book) -> bool {
     for place in 0..map.places.len() {
+        let stays: Vec<&Row> = book.rows.iter().filter(|row| row.place == place).collect();
+        if stays.is_empty() {
+            continue;
+        }
         let mut load = vec![0u32; DAY as usize];
-        for row in book.rows.iter().filter(|row| row.place == place) {
+        for row in stays {
             for second in row.entry..row.exit {
                 load[second as usize] += 1;
             }

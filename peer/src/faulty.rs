@@ -17,6 +17,7 @@ struct Window {
 
 pub fn plan(map: &Map, rows: &[Row], start: usize, destination: usize, second: u32, error: u32) -> Option<Vec<Row>> {
     let booked: HashSet<(usize, usize, u32)> = rows.iter().filter_map(|row| row.crossing()).collect();
+    let linked: HashSet<(usize, usize)> = map.links.iter().copied().collect();
     let mut windows = windows(map, rows);
     for window in windows.iter_mut().filter(|window| window.place == start) {
         if window.from <= second && second + map.duration(start) <= window.to {
@@ -39,7 +40,7 @@ pub fn plan(map: &Map, rows: &[Row], start: usize, destination: usize, second: u
         }
         for after in 0..windows.len() {
             let to = windows[after].place;
-            if !map.has_link(place, to) {
+            if !linked.contains(&(place, to)) {
                 continue;
             }
             // Error 2: a window is closed at its first reach.
