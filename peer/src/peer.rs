@@ -1,5 +1,6 @@
 //! The independent program: reads frames, answers each line.
-//! `--error N` answers with one of the errors we have seen.
+//! `--error N` answers with one of the errors we have seen; `--check` stops where the book is
+//! not well formed after a frame.
 
 mod barn;
 mod desk;
@@ -9,12 +10,14 @@ mod plan;
 use std::io::{self, BufWriter, Read, Write};
 use std::process::exit;
 
-fn error_asked() -> desk::Error {
+fn asked() -> (desk::Error, bool) {
     let words: Vec<String> = std::env::args().skip(1).collect();
-    match words.len() {
-        0 => None,
-        2 if words[0] == "--error" => match words[1].parse() {
-            Ok(number) if number <= 6 => Some(number),
+    let words: Vec<&str> = words.iter().map(|word| word.as_str()).collect();
+    match words[..] {
+        [] => (None, false),
+        ["--check"] => (None, true),
+        ["--error", number] => match number.parse() {
+            Ok(number) if number <= 6 => (Some(number), false),
             _ => usage(),
         },
         _ => usage(),
@@ -22,17 +25,23 @@ fn error_asked() -> desk::Error {
 }
 
 fn usage() -> ! {
-    eprintln!("usage: peer [--error 0..6]");
+    eprintln!("usage: peer [--check | --error 0..6]");
     exit(2)
 }
 
 fn main() -> io::Result<()> {
-    let mut desk = desk::Desk::new(error_asked());
+    let (error, check) = asked();
+    let mut desk = desk::Desk::new(error);
     let mut input = Vec::new();
     io::stdin().lock().read_to_end(&mut input)?;
     let mut out = BufWriter::new(io::stdout().lock());
     for line in desk::split(&input) {
         out.write_all(desk.answer(line).as_bytes())?;
+        if check && desk.map.keeps_rules() && !barn::well_formed(&desk.map, &desk.book) {
+            out.flush()?;
+            eprintln!("the book is not well formed");
+            exit(1);
+        }
     }
     out.flush()
 }

@@ -503,8 +503,11 @@ impl Yard {
     fn tickets(&mut self) {
         self.place(1, 1);
         for ticket in 1..=LAST_TICKET as usize {
-            self.book(0, 0, ticket % 9);
-            if ticket != 5 {
+            // Ticket 5 stands to the end, out of the others' way.
+            if ticket == 5 {
+                self.book(0, 0, 100);
+            } else {
+                self.book(0, 0, ticket % 9);
                 self.cancel(ticket);
             }
         }
