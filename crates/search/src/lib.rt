@@ -9,6 +9,19 @@ ghost use Rattle.flat.specs.Flat.{rowsIn, placeOf};
 ghost use Rattle.settle.specs.Blocks.{Blocks};
 ghost use Rattle.search.specs.Entries.{FirstClear};
 ghost use Rattle.search.specs.Offers.{Row1, Labels, Tried, OfferedTo, OpenFrom};
+ghost use Rattle.search.specs.Relax.{Ground, Relaxed};
+
+fn wide(x: u8) -> usize
+    ensures { λ r. ⌜ (r ≡ x) × (r < 256) ⌝ }
+{
+    x as usize
+}
+
+fn broad(x: u16) -> usize
+    ensures { λ r. ⌜ (r ≡ x) × (r < 65536) ⌝ }
+{
+    x as usize
+}
 
 fn later(a: u32, b: u32) -> u32
     ensures { λ r. ⌜ r ≡ max a b ⌝ }
@@ -214,5 +227,82 @@ fn relax_place(
         let hi = sooner(leave, last);
         try_window(key, exit, next, n, q, p, lo, hi, v, w, label, live, least, before);
         v += 1;
+    }
+}
+
+// The windows of place q offered the way through w.
+fn relax_link(
+    dur: &[u32; 256],
+    first: &[u16; 257],
+    start: &[u32; 1280],
+    end: &[u32; 1280],
+    key: &[u64; 1024],
+    exit: &[u32; 1024],
+    next: &[u8; 1024],
+    n: usize,
+    q: u8,
+    p: u8,
+    soonest: u32,
+    leave: u32,
+    w: usize,
+    label: &mut [u32; 1280],
+    live: &mut [u32; 1280],
+    least: &mut [u32; 40],
+    before: &mut [u16; 1280],
+)
+    requires { ⌜ (n ≤ 1024) × (w < 1280) × (soonest ≤ 90000) × (leave ≤ 86400) ⌝ }
+    requires { ⌜ (at (now first) q ≤ at (now first) (q + 1)) × (at (now first) (q + 1) ≤ 1280) × (at (now dur) q ≤ 3600) ⌝ }
+    requires { ⌜ Row1 (now start) (now end) (at (now first) q) (at (now first) (q + 1)) (at (now dur) q) ⌝ }
+    requires { ⌜ Labels (now label) (now live) (now before) ⌝ }
+    requires { ⌜ Blocks (now live) (now least) ⌝ }
+    ensures { λ _. ⌜ OfferedTo (rowsIn (now (key .entry)) (now (exit .entry)) (now (next .entry)) n) q p soonest leave (at (now (dur .entry)) q) (now (start .entry)) (now (end .entry)) (at (now (first .entry)) q) (at (now (first .entry)) (q + 1)) w (now (label .entry)) (now (live .entry)) (now (before .entry)) (at (now (first .entry)) (q + 1)) (now (label .exit)) (now (live .exit)) (now (before .exit)) × (Labels (now (label .exit)) (now (live .exit)) (now (before .exit)) × Blocks (now (live .exit)) (now (least .exit))) ⌝ }
+{
+    let i = q as usize;
+    let a = first[i] as usize;
+    let b = first[i + 1] as usize;
+    let d = dur[i];
+    relax_place(start, end, key, exit, next, n, a, b, q, p, d, soonest, leave, w, label, live, least, before);
+}
+
+// The way through window w of place p offered to every window that a link of p leads to.
+fn relax(
+    places: usize,
+    links: usize,
+    windows: usize,
+    dur: &[u32; 256],
+    from: &[u8; 1024],
+    to: &[u8; 1024],
+    head: &[u16; 256],
+    chain: &[u16; 1024],
+    place: &[u8; 1280],
+    start: &[u32; 1280],
+    end: &[u32; 1280],
+    first: &[u16; 257],
+    key: &[u64; 1024],
+    exit: &[u32; 1024],
+    next: &[u8; 1024],
+    n: usize,
+    w: usize,
+    label: &mut [u32; 1280],
+    live: &mut [u32; 1280],
+    least: &mut [u32; 40],
+    before: &mut [u16; 1280],
+)
+    requires { ⌜ Ground places links n windows (now dur) (now from) (now to) (now head) (now chain) (now place) (now start) (now end) (now first) ⌝ }
+    requires { ⌜ (w < windows) × (at (now label) w ≤ 86400) ⌝ }
+    requires { ⌜ Labels (now label) (now live) (now before) ⌝ }
+    requires { ⌜ Blocks (now live) (now least) ⌝ }
+    ensures { λ _. ⌜ Relaxed (rowsIn (now (key .entry)) (now (exit .entry)) (now (next .entry)) n) places links windows (now (dur .entry)) (now (from .entry)) (now (to .entry)) (now (place .entry)) (now (start .entry)) (now (end .entry)) w (now (label .entry)) (now (live .entry)) (now (before .entry)) (now (label .exit)) (now (live .exit)) (now (before .exit)) × (Labels (now (label .exit)) (now (live .exit)) (now (before .exit)) × Blocks (now (live .exit)) (now (least .exit))) ⌝ }
+{
+    let p = place[w];
+    let here = wide(p);
+    let soonest = label[w] + dur[here];
+    let leave = end[w];
+    let mut cur = broad(head[here]);
+    while cur > 0 {
+        let j = cur - 1;
+        let q = to[j];
+        relax_link(dur, first, start, end, key, exit, next, n, q, p, soonest, leave, w, label, live, least, before);
+        cur = broad(chain[j]);
     }
 }
