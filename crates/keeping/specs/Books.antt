@@ -22,9 +22,9 @@ module _ {A : Type 0} (z : A) (n : ℕ) where
   filled l c e h f =
       sym (take-append-drop c l)
       ∙ ap (λ (r : List A). take c l ++ r)
-          (ext-getD z (drop c l) (replicate (n - c) z) (length-drop c l ∙ ap (λ (m : ℕ). m - c) e ∙ sym (length-replicate (n - c) z))
-              (λ i k. let d = length-drop c l in
-                  getD-drop c l i z ∙ f (c + i) (omega arith) (omega arith) ∙ sym (getD-replicate (n - c) i z z (omega arith))))
+      (ext-getD z (drop c l) (replicate (n - c) z) (length-drop c l ∙ ap (λ (m : ℕ). m - c) e ∙ sym (length-replicate (n - c) z))
+      (λ i k. let d = length-drop c l in
+      getD-drop c l i z ∙ f (c + i) (omega arith) (omega arith) ∙ sym (getD-replicate (n - c) i z z (omega arith))))
 
   pub past-end : (l : List A) (i : ℕ) → length l ≤ i → i < n → getD (l ++ replicate (n - length l) z) i z ≡ z
   past-end l i h k =

@@ -112,10 +112,10 @@ module _ {Y : Yard} (rules : YardRules Y) {rows : List Row} {t start dest s : �
   old-clear r m ne =
       ⊎-elim
       (λ (e : crosses new (r .next) (r .place) (r .exit) ≡ true).
-          let c = crosses-row (r .next) (r .place) (r .exit) new e in
-          let x = c .row in
-          let clear = new-clear x (c .booked) (λ e. ne (sym (c .from) ∙ sym e ∙ c .to)) in
-          absurd (not-both (row-crosses (x .next) (x .place) (x .exit) m (sym (c .to)) (sym (c .from)) (sym (c .at))) clear))
+      let c = crosses-row (r .next) (r .place) (r .exit) new e in
+      let x = c .row in
+      let clear = new-clear x (c .booked) (λ e. ne (sym (c .from) ∙ sym e ∙ c .to)) in
+      absurd (not-both (row-crosses (x .next) (x .place) (x .exit) m (sym (c .to)) (sym (c .from)) (sym (c .at))) clear))
       (λ (e : crosses new (r .next) (r .place) (r .exit) ≡ false). e)
       (true-or-false (crosses new (r .next) (r .place) (r .exit)))
 

@@ -100,10 +100,10 @@ module _ (p q t : ℕ) where
   pub crosses-all : (new rows : List Row) → crosses (insertAll new rows) p q t ≡ (crosses new p q t || crosses rows p q t)
   crosses-all new rows = same-test (crosses (insertAll new rows) p q t) (crosses new p q t || crosses rows p q t)
       (λ h. let c = crosses-row (insertAll new rows) h in
-          ⊎-elim (λ (m : List·Memᴰ (c .row) new). or-l (crosses rows p q t) (row-crosses m (c .from) (c .to) (c .at)))
-          (λ (m : List·Memᴰ (c .row) rows). or-r (crosses new p q t) (row-crosses m (c .from) (c .to) (c .at)))
-          (mem-all new (c .row) rows (c .booked)))
+      ⊎-elim (λ (m : List·Memᴰ (c .row) new). or-l (crosses rows p q t) (row-crosses m (c .from) (c .to) (c .at)))
+      (λ (m : List·Memᴰ (c .row) rows). or-r (crosses new p q t) (row-crosses m (c .from) (c .to) (c .at)))
+      (mem-all new (c .row) rows (c .booked)))
       (λ h. ⊎-elim
-          (λ (e : crosses new p q t ≡ true). let c = crosses-row new e in row-crosses (all-new new (c .row) rows (c .booked)) (c .from) (c .to) (c .at))
-          (λ (e : crosses rows p q t ≡ true). let c = crosses-row rows e in row-crosses (all-old new (c .row) rows (c .booked)) (c .from) (c .to) (c .at))
-          (or-out (crosses new p q t) (crosses rows p q t) h))
+      (λ (e : crosses new p q t ≡ true). let c = crosses-row new e in row-crosses (all-new new (c .row) rows (c .booked)) (c .from) (c .to) (c .at))
+      (λ (e : crosses rows p q t ≡ true). let c = crosses-row rows e in row-crosses (all-old new (c .row) rows (c .booked)) (c .from) (c .to) (c .at))
+      (or-out (crosses new p q t) (crosses rows p q t) h))

@@ -100,7 +100,7 @@ module _ (k : ℕ) where
         let b = ap (λ (r : Row). r .exit) (j .2) in
         ⊎-elim (λ (c : i .0 < j .0). absurd (omega (arith, run-rises rules k plan P noRow (i .0) (j .0) c (j .1), a, b)))
         (λ (c : j .0 ≤ i .0). ⊎-elim (λ (d : j .0 < i .0). absurd (omega (arith, run-rises rules k plan P noRow (j .0) (i .0) d (i .1), a, b)))
-            (λ (d : i .0 ≤ j .0). let o : i .0 ≡ j .0 = omega arith in sym (i .2) ∙ ap (rowAt (runRows k plan)) o ∙ j .2) (lt-or-ge (j .0) (i .0)))
+        (λ (d : i .0 ≤ j .0). let o : i .0 ≡ j .0 = omega arith in sym (i .2) ∙ ap (rowAt (runRows k plan)) o ∙ j .2) (lt-or-ge (j .0) (i .0)))
         (lt-or-ge (i .0) (j .0))
 
     -- no row of a plan meets another of it
@@ -109,8 +109,8 @@ module _ (k : ℕ) where
     run-meets-none plan P r m ne =
         ⊎-elim
         (λ (e : crosses (runRows k plan) (r .next) (r .place) (r .exit) ≡ true).
-            let c = crosses-row (r .next) (r .place) (r .exit) (runRows k plan) e in
-            let s = same-exit plan P (c .row) r (c .booked) m (c .at) in
-            absurd (ne (sym (c .from) ∙ ap (λ (r : Row). r .place) s)))
+        let c = crosses-row (r .next) (r .place) (r .exit) (runRows k plan) e in
+        let s = same-exit plan P (c .row) r (c .booked) m (c .at) in
+        absurd (ne (sym (c .from) ∙ ap (λ (r : Row). r .place) s)))
         (λ (e : crosses (runRows k plan) (r .next) (r .place) (r .exit) ≡ false). e)
         (true-or-false (crosses (runRows k plan) (r .next) (r .place) (r .exit)))
