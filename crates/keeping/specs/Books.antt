@@ -10,7 +10,7 @@ use Rattle.rules.specs.declared.Row.{Row}
 use Rattle.rules.specs.declared.Book.{Book}
 use Rattle.rules.specs.Limits.{rowLimit}
 use Rattle.rules.specs.Map.{Yard}
-use Rattle.rules.specs.Rows.{noRow, rowAt}
+use Rattle.rules.specs.Rows.{noRow}
 use Rattle.rules.specs.Book.{WellFormed, GoodBook, rowsOf, bookOf}
 
 pub book-eq : (a b : Book) → a .rows ≡ b .rows → a .count ≡ b .count → a .«next_ticket» ≡ b .«next_ticket» → a ≡ b

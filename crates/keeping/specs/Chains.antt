@@ -1,13 +1,13 @@
 -- Rows in key order, link by link: a chain is a list whose keys rise from above a key on. Rising by index and a chain from the first row on
 -- are the same, because the order is transitive; and chains can be cut, joined and thinned out.
 use mathlib.Core.Path.{_≡_, refl, sym, ap, _∙_}
-use mathlib.Core.Logic.{_⊎_, inl, inr, ⊎-elim}
+use mathlib.Core.Logic.{_⊎_, inl, inr}
 use mathlib.Core.Bool.{Bool, true, false}
 use mathlib.Core.List.{List, [], _∷_, _++_, List·Memᴰ}
 use mathlib.Core.List.List·Memᴰ.{List·Memᴰ·head, List·Memᴰ·tail}
-use Prim.Native.Nat.{ℕ, zero, suc, _+_, _<_, _≤_}
+use Prim.Native.Nat.{ℕ, zero, suc, _<_, _≤_}
 use native.Mathlib.Omega.{arith}
-use lib.ListN.{length, getD, take, drop}
+use lib.ListN.{length, take}
 use Rattle.laws.specs.Order.{lt-or-ge}
 use Rattle.laws.specs.Lists.{mem-index, index-mem}
 use Rattle.rules.specs.declared.Row.{Row}

@@ -3,17 +3,17 @@
 use mathlib.Core.Path.{_≡_, refl, sym, ap, _∙_}
 use mathlib.Core.Logic.{_⊎_, inl, inr, ⊎-elim}
 use mathlib.Core.Bool.{Bool, true, false, not}
-use mathlib.Core.List.{List, [], _∷_, _++_, List·Memᴰ, List·Memᴰ·not-nil, List·Memᴰ·cases-cons}
+use mathlib.Core.List.{List, [], _∷_, List·Memᴰ, List·Memᴰ·not-nil, List·Memᴰ·cases-cons}
 use mathlib.Core.List.List·Memᴰ.{List·Memᴰ·head, List·Memᴰ·tail}
-use Prim.Native.Nat.{ℕ, zero, suc, _+_, _<_, _≤_}
+use Prim.Native.Nat.{ℕ, suc, _+_, _<_, _≤_}
 use native.Mathlib.Omega.{arith}
-use lib.ListN.{length, getD}
-use Rattle.laws.specs.Lists.{mem-index, index-mem}
+use lib.ListN.{length}
+use Rattle.laws.specs.Lists.{mem-index}
 use Rattle.rules.specs.declared.Row.{Row}
 use Rattle.rules.specs.Rows.{Key, rowKey, noRow, rowAt, Less, lessb, Rising, choose, keep, putBefore, insertRow, insertAll}
 use Rattle.keeping.specs.OrderLaws.{Three, three, lessb-less, not-less}
 use Rattle.keeping.specs.OrderLaws.Three.{less, same, more as above}
-use Rattle.keeping.specs.Chains.{Chain, chain-keep, chain-rising, cons-rising, rising-chain, rising-tail, rising-none}
+use Rattle.keeping.specs.Chains.{Chain, chain-keep, chain-rising, cons-rising, rising-chain, rising-none}
 use Rattle.keeping.specs.Chains.Chain.{none, more}
 
 -- ---- what a test keeps

@@ -1,10 +1,10 @@
 -- A booking and a cancellation leave a well-formed book well formed. The new rows have a ticket of their own, so that the other tickets'
 -- rows are what they were; load and exchange hold by what the plan was permitted for. A cancellation only takes a whole ticket's rows away.
-use mathlib.Core.Path.{_≡_, refl, sym, ap, subst, _∙_}
+use mathlib.Core.Path.{_≡_, sym, ap, subst, _∙_}
 use mathlib.Core.Logic.{_⊎_, inl, inr, ⊎-elim}
-use mathlib.Core.Bool.{Bool, true, false, _||_, not}
-use mathlib.Core.List.{List, [], _∷_, List·Memᴰ, List·Memᴰ·not-nil}
-use Prim.Native.Nat.{ℕ, zero, suc, _+_, _<_, _≤_}
+use mathlib.Core.Bool.{true, false}
+use mathlib.Core.List.{List, [], List·Memᴰ, List·Memᴰ·not-nil}
+use Prim.Native.Nat.{ℕ, _+_, _<_, _≤_}
 use native.Mathlib.Omega.{arith}
 use lib.ListN.{length}
 use lib.Dec.{eqb}
@@ -13,13 +13,12 @@ use Rattle.laws.specs.Order.{eq-or-ne}
 use Rattle.laws.specs.Tests.{true-or-false, not-both}
 use Rattle.laws.specs.Lists.{mem-index, index-mem}
 use Rattle.rules.specs.declared.Row.{Row}
-use Rattle.rules.specs.Limits.{day, rowLimit, ticketLimit}
+use Rattle.rules.specs.Limits.{rowLimit, ticketLimit}
 use Rattle.rules.specs.Map.{Yard}
-use Rattle.rules.specs.Rows.{Key, rowKey, noRow, rowAt, Rising, load, crosses, keep, insertAll}
-use Rattle.rules.specs.Plan.{Stay, Plan, held, Permitted, runRows}
-use Rattle.rules.specs.Book.{Ranges, Whole, WellFormed, ofTicket, otherTicket}
+use Rattle.rules.specs.Rows.{Key, noRow, rowAt, load, crosses, keep, insertAll}
+use Rattle.rules.specs.Plan.{Stay, Permitted, runRows}
+use Rattle.rules.specs.Book.{Ranges, Whole, WellFormed, otherTicket}
 use Rattle.lanes.specs.Yards.{YardRules}
-use Rattle.chains.specs.Test.{Last}
 use Rattle.keeping.specs.Chains.{rising-none}
 use Rattle.keeping.specs.Changes.{keep-mem, mem-keep, keep-rising, keep-le, all-length, mem-all, all-old, all-new, AllNew, all-rising}
 use Rattle.keeping.specs.Loads.{load-all, load-keep, crosses-row, row-crosses, crosses-all, crosses-keep}

@@ -5,3 +5,4 @@ pub mod Loads
 pub mod Runs
 pub mod Keeping
 pub mod Books
+pub mod Calls

@@ -1,15 +1,15 @@
 -- Laws of the keys' order: it is transitive, no key is below itself, of two keys one is below the other or they are the same,
 -- and the test `lessb` says exactly whether one is below the other.
-use mathlib.Core.Path.{_≡_, refl, sym, _∙_}
+use mathlib.Core.Path.{_≡_, sym, _∙_}
 use mathlib.Core.Logic.{_⊎_, inl, inr}
-use mathlib.Core.Bool.{Bool, true, false, true≢false}
-use Prim.Native.Nat.{ℕ, _<_, _≤_}
+use mathlib.Core.Bool.{true, false, true≢false}
+use Prim.Native.Nat.{_<_, _≤_}
 use native.Mathlib.Nat.{le-antisymm}
 use native.Mathlib.Omega.{arith}
 use lib.Dec.{ltb}
 use borrow.Author.Tests.{lt-ltb, le-ltb}
 use Rattle.laws.specs.Order.{lt-or-ge}
-use Rattle.rules.specs.Rows.{Key, Less, lex, lessb}
+use Rattle.rules.specs.Rows.{Key, Less, lessb}
 use Rattle.rules.specs.Rows.Less.{by-place, by-entry, by-ticket}
 
 pub less-trans : {a b c : Key} → Less a b → Less b c → Less a c

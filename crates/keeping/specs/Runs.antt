@@ -1,23 +1,22 @@
 -- A plan's rows under a ticket: as many as its stays, of its ticket alone, loading places as the stays do; each row passes the chain test;
 -- entries rise along them, so that their keys differ; and no two of them meet head-on, because their exits differ too.
 use mathlib.Core.Path.{_≡_, refl, sym, ap, subst, _∙_}
-use mathlib.Core.Logic.{_⊎_, inl, inr, ⊎-elim}
-use mathlib.Core.Bool.{Bool, true, false}
+use mathlib.Core.Logic.{⊎-elim}
+use mathlib.Core.Bool.{true, false}
 use mathlib.Core.List.{List, [], _∷_, List·Memᴰ, List·Memᴰ·not-nil, List·Memᴰ·cases-cons}
-use mathlib.Core.List.List·Memᴰ.{List·Memᴰ·head, List·Memᴰ·tail}
 use Prim.Native.Nat.{ℕ, zero, suc, _+_, _<_, _≤_}
 use native.Mathlib.Omega.{arith}
-use lib.ListN.{length, getD}
+use lib.ListN.{length}
 use Rattle.laws.specs.Order.{lt-or-ge}
-use Rattle.laws.specs.Tests.{true-or-false, not-both}
-use Rattle.laws.specs.Lists.{mem-index, index-mem}
+use Rattle.laws.specs.Tests.{true-or-false}
+use Rattle.laws.specs.Lists.{mem-index}
 use Rattle.rules.specs.declared.Row.{Row}
 use Rattle.rules.specs.Map.{Yard}
 use Rattle.rules.specs.Rows.{Key, rowKey, noRow, rowAt, covers, bit, load, crosses}
 use Rattle.rules.specs.Plan.{Stay, stayAt, Plan, held, stayRow, runRows}
 use Rattle.rules.specs.Book.{Whole}
 use Rattle.lanes.specs.Yards.{YardRules}
-use Rattle.chains.specs.Test.{Last, AllWhole, RowOk, Tested}
+use Rattle.chains.specs.Test.{AllWhole, RowOk}
 use Rattle.chains.specs.Laws.{whole-tested, run-rises}
 use Rattle.keeping.specs.Loads.{crosses-row}
 

@@ -2,7 +2,7 @@
 -- a call that keeps its contract, and what a walk shows is what its caller reads in the answers.
 use Prim.Native.Nat.{ℕ, zero, suc, _+_, _*_, _≤_, _<_}
 use mathlib.Core.Path.{_≡_}
-use mathlib.Core.Bool.{Bool, true, false}
+use mathlib.Core.Bool.{true, false}
 use mathlib.Core.List.{List, [], _∷_, _++_, List·Memᴰ}
 use lib.ListN.{length, getD, drop}
 use Rattle.laws.specs.Lists.{at}

@@ -4,13 +4,12 @@
 use Prim.Native.Nat.{ℕ, zero, suc, _+_, _*_, _≤_, _<_}
 use mathlib.Core.Path.{_≡_, refl, sym, ap, subst, _∙_}
 use mathlib.Core.Logic.{_⊎_, inl, inr, ⊎-elim}
-use mathlib.Core.Bool.{Bool, true, false}
-use mathlib.Core.List.{List, [], _∷_, _++_, List·Memᴰ, List·Memᴰ·not-nil, List·Memᴰ·append-cases, Memᴰ·append-left, Memᴰ·append-right}
+use mathlib.Core.Bool.{true, false}
+use mathlib.Core.List.{List, [], _∷_, List·Memᴰ, List·Memᴰ·not-nil, List·Memᴰ·append-cases, Memᴰ·append-left, Memᴰ·append-right}
 use mathlib.Core.List.List·Memᴰ.{List·Memᴰ·head, List·Memᴰ·tail}
 use native.Mathlib.Omega.{arith}
-use lib.ListN.{length, take, drop, take-append-drop, drop-of-length-le}
+use lib.ListN.{length, drop, take-append-drop, drop-of-length-le}
 use lib.Seq.{length-take-le}
-use lib.Dec.{ltb}
 use borrow.Author.Tests.{ltb-true, ltb-false}
 use Rattle.laws.specs.Order.{lt-or-ge}
 use Rattle.laws.specs.Lists.{mem-index}
@@ -20,22 +19,22 @@ use Rattle.rules.specs.declared.Book.{Book}
 use Rattle.rules.specs.declared.Booking.{Booking}
 use Rattle.rules.specs.declared.Cancelling.{Cancelling}
 use Rattle.rules.specs.declared.Paged.{Paged}
-use Rattle.rules.specs.Limits.{day, pageLimit, ticketLimit}
-use Rattle.rules.specs.Map.{Yard, GoodMap, mapYard}
-use Rattle.rules.specs.Rows.{Key, rowKey, firstKey, noRow, rowAt, Less, lessb, Rising, keep, insertAll}
+use Rattle.rules.specs.Map.{GoodMap, mapYard}
+use Rattle.rules.specs.Rows.{Key, rowKey, firstKey, noRow, Less, lessb, Rising, keep, insertAll}
 use Rattle.rules.specs.Rows.Less.{by-place, by-entry, by-ticket}
-use Rattle.rules.specs.Page.{after, pageRows, pageMore, lastKey}
+use Rattle.rules.specs.Page.{after, pageRows, lastKey}
 use Rattle.rules.specs.Plan.{Stay, runRows}
-use Rattle.rules.specs.Book.{WellFormed, GoodBook, rowsOf, bookOf, otherTicket}
-use Rattle.rules.specs.Answer.{Unless, rowsBytes, written, records, BookIs, BookingIs, BookDone, bookedCount, CancelIs, CancellingIs, CancelDone, PageIs, PagingIs, PageDone, CursorFits, pagedNumber, pagedCount, pagedMore, pagedCursor}
-use Rattle.keeping.specs.OrderLaws.{less-trans, less-irrefl, less-lessb, lessb-less, same-lessb}
+use Rattle.rules.specs.Book.{GoodBook, rowsOf, otherTicket}
+use Rattle.rules.specs.Answer.{Unless, BookIs, BookingIs, BookDone, bookedCount, CancelIs, CancellingIs, CancelDone, PagingIs, PageDone, pagedMore, pagedCursor}
+use Rattle.keeping.specs.OrderLaws.{less-trans, less-lessb, lessb-less, same-lessb}
 use Rattle.keeping.specs.Chains.{Chain, chain-below, chain-take, chain-append, chain-rest, chain-rising, after-chain, keys-once}
 use Rattle.keeping.specs.Chains.Chain.{none, more}
 use Rattle.keeping.specs.Changes.{keep-mem, mem-keep, keep-le}
 use Rattle.keeping.specs.Runs.{run-length}
 use Rattle.keeping.specs.Keeping.{row-ranges}
 use Rattle.keeping.specs.Books.{rows-of-book}
-use Rattle.walks.specs.Walk.{readRows, Page, Others, Walk, showsOf, Seen, seen, pages, shown, bookedBy, booked, noPage, pageAt, Stood, ShownOnce, Walked}
+use Rattle.keeping.specs.Calls.{unless, booking-good, cancelling-good}
+use Rattle.walks.specs.Walk.{Page, Others, Walk, showsOf, pages, shown, bookedBy, booked, pageAt, Stood, Walked}
 use Rattle.walks.specs.Walk.Others.{rests, plans, books, cancels, looks}
 use Rattle.walks.specs.Walk.Walk.{ends, goes}
 use Rattle.walks.specs.Counts.{keep-less, keep-keep, keep-all}
@@ -47,11 +46,6 @@ use Rattle.walks.specs.Reading.{Fits, read-rows}
 past : {ok bad rest : Type 0} → (bad → ⊥) → Unless ok bad rest → ok × rest
 past f (inl x) = absurd (f (x .1))
 past f (inr y) = y
-
--- refused by this number, or not
-unless : {ok bad rest X : Type 0} → (bad → X) → (rest → X) → Unless ok bad rest → X
-unless f g (inl x) = f (x .1)
-unless f g (inr y) = g (y .1)
 
 -- ---- one page
 
@@ -104,10 +98,14 @@ module _ {m : Map} {b : Book} {k : Key} (p : Page m b k) where
       }
 
   -- what the caller reads is the page
-  shows-page : showsOf p ≡ page
+  pub shows-page : showsOf p ≡ pageRows (p .size) k (rowsOf b)
   shows-page =
       let D = paging .is in
       rw (D .counts, D .holds) (read-rows page (drop (11 * length page) (p .list)) (λ x n. row-fits x (page-stood x n)))
+
+  -- and the cursor handed back is its last row's key
+  pub cursor-last : pagedCursor (p .answer) ≡ lastKey k (showsOf p)
+  cursor-last = paging .is .hands ∙ ap (lastKey k) (sym shows-page)
 
   page-chain : Chain k page
   page-chain = chain-take (p .size) (after-chain k rows rising)
@@ -157,7 +155,7 @@ Grows k b c n = above k c ≤ above k b + n
 
 module _ {m : Map} (k : Key) where
   book-grows : {b : Book} {start dest s : ℕ} {r : Booking} → BookIs m b start dest s r → Grows k b (r .book) (bookedCount (r .answer))
-  book-grows {b} {r = r} h = unless same (unless same (unless same (unless same (unless same (unless same (λ c. unless same (done (c .0)) (c .2))))))) h
+  book-grows {b} {r = r} h = unless same (λ a. unless same (λ a. unless same (λ a. unless same (λ a. unless same (λ a. unless same (λ a c. unless same (λ a. done (c .0)) (c .2))))))) h
     where
       same : {n : ℕ} → BookingIs n 0 0 0 b r → Grows k b (r .book) (bookedCount (r .answer))
       same x = let e = ap (above k) (x .holds) in omega arith
@@ -166,11 +164,11 @@ module _ {m : Map} (k : Key) where
       done plan x =
           let new = runRows (b .«next_ticket») plan in
           let e : above k (r .book) ≡ length (after k (insertAll new (rowsOf b))) =
-              ap (above k) (x .holds) ∙ ap (λ (l : List Row). length (after k l)) (rows-of-book (insertAll new (rowsOf b)) (b .«next_ticket» + 1)) in
+          ap (above k) (x .holds) ∙ ap (λ (l : List Row). length (after k l)) (rows-of-book (insertAll new (rowsOf b)) (b .«next_ticket» + 1)) in
           omega (arith, e, keep-all (λ r. lessb k (rowKey r)) new (rowsOf b), run-length (b .«next_ticket») plan, x .counts)
 
   cancel-grows : {b : Book} {ticket : ℕ} {r : Cancelling} → CancelIs m b ticket r → Grows k b (r .book) 0
-  cancel-grows {b} {ticket} {r} h = unless same (unless same (unless same done)) h
+  cancel-grows {b} {ticket} {r} h = unless same (λ a. unless same (λ a. unless same (λ a. done))) h
     where
       same : {n : ℕ} → CancellingIs n 0 b r → Grows k b (r .book) 0
       same x = let e = ap (above k) (x .holds) in omega arith
@@ -178,7 +176,7 @@ module _ {m : Map} (k : Key) where
       done : CancelDone ticket b r → Grows k b (r .book) 0
       done x =
           let e : above k (r .book) ≡ length (after k (keep (otherTicket ticket) (rowsOf b))) =
-              ap (above k) (x .holds) ∙ ap (λ (l : List Row). length (after k l)) (rows-of-book (keep (otherTicket ticket) (rowsOf b)) (b .«next_ticket»)) in
+          ap (above k) (x .holds) ∙ ap (λ (l : List Row). length (after k l)) (rows-of-book (keep (otherTicket ticket) (rowsOf b)) (b .«next_ticket»)) in
           omega (arith, e, keep-keep (λ r. lessb k (rowKey r)) (otherTicket ticket) (rowsOf b))
 
   -- above a key the book grows by no more than is booked
@@ -189,6 +187,14 @@ module _ {m : Map} (k : Key) where
   others-grow (cancels h o) = omega (arith, cancel-grows h, others-grow o)
   others-grow (looks h o) = others-grow o
 
+-- a good book stays good
+pub others-good : {m : Map} {b c : Book} → Others m b c → GoodBook (mapYard m) b → GoodBook (mapYard m) c
+others-good rests G = G
+others-good (plans h o) G = others-good o G
+others-good (books h o) G = others-good o (booking-good h G)
+others-good (cancels h o) G = others-good o (cancelling-good h G)
+others-good (looks h o) G = others-good o G
+
 -- ---- the walk
 
 -- all that is shown is one chain
@@ -196,7 +202,7 @@ walk-chain : {m : Map} {k : Key} {b : Book} (w : Walk m k b) → Chain k (shown 
 walk-chain {k = k} (ends p e) = chain-append (subst (Chain k) (sym (shows-page p)) (page-chain p)) none
 walk-chain {k = k} (goes p e o w) =
     chain-append (subst (Chain k) (sym (shows-page p)) (page-chain p))
-    (subst (λ (j : Key). Chain j (shown (pages w))) (paging p .is .hands ∙ ap (lastKey k) (sym (shows-page p))) (walk-chain w))
+    (subst (λ (j : Key). Chain j (shown (pages w))) (cursor-last p) (walk-chain w))
 
 -- a row above the cursor that stands at each page is shown
 walk-shows : {m : Map} {k : Key} {b : Book} (w : Walk m k b) (x : Row) → Less k (rowKey x) → Stood x (pages w) → List·Memᴰ x (shown (pages w))
@@ -207,7 +213,7 @@ walk-shows {k = k} {b} (ends p e) x l s =
 walk-shows {k = k} {b} (goes p e o w) x l s =
     ⊎-elim (λ (n : List·Memᴰ x (page p)). Memᴰ·append-left {s = showsOf p} (shown (pages w)) (rw (shows-page p) n))
     (λ (n : List·Memᴰ x (drop (p .size) (after k (rowsOf b)))).
-        Memᴰ·append-right (showsOf p) (walk-shows w x (rw (paging p .is .hands) (past-page p x n)) (λ i h. s (suc i) (omega arith))))
+    Memᴰ·append-right (showsOf p) (walk-shows w x (rw (paging p .is .hands) (past-page p x n)) (λ i h. s (suc i) (omega arith))))
     (on-or-past p x l (s 0 (omega arith)))
 
 walk-asked : {m : Map} {k : Key} {b : Book} (w : Walk m k b) (i : ℕ) → i < length (pages w) → (x : Row)
