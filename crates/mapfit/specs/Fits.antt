@@ -117,3 +117,34 @@ module _ (C D F T : List ℕ) (n k : ℕ) where
 
     pub rules-once : Once F T k
     rules-once = record { twice = λ i j h g a b. M .once i j h (omega (arith, links-long F T k)) (link-in F T k i (omega arith) ∙ (λ x. record { from = a x; to = b x }) ∙ sym (link-in F T k j g)) }
+
+-- ---- the answers: false where a test fails, and the last test's answer where all before it hold
+
+module _ {n k : ℕ} {C D F T H N : List ℕ} (h : length H ≡ 256) (c : length N ≡ 1024) where
+  pub refused : (MapRules (placesIn C D n) (linksIn F T k) → ⊥) → MapFits n k C D F T H N false
+  refused bad = record { kept = λ q. absurd (not-both q refl); chained = λ q. absurd (not-both q refl); all = λ M. absurd (bad M); len-head = h; len-chain = c }
+
+  pub no-place : n < 1 → MapFits n k C D F T H N false
+  no-place e = refused (λ M. omega (arith, rules-some C D F T n k M))
+
+  pub many-places : 256 < n → MapFits n k C D F T H N false
+  many-places e = refused (λ M. omega (arith, rules-few C D F T n k M))
+
+  pub many-links : 1024 < k → MapFits n k C D F T H N false
+  many-links e = refused (λ M. omega (arith, rules-few-links C D F T n k M))
+
+  pub bad-place : (PlacesFit C D n → ⊥) → MapFits n k C D F T H N false
+  bad-place bad = refused (λ M. bad (rules-places C D F T n k M))
+
+  pub bad-link : (LinksFit F T n k → ⊥) → MapFits n k C D F T H N false
+  bad-link bad = refused (λ M. bad (rules-links C D F T n k M))
+
+  pub answered : {r : Bool} → 1 ≤ n → n ≤ 256 → k ≤ 1024 → PlacesFit C D n → LinksFit F T n k → Chained F k H N
+      → (r ≡ true → Once F T k) × (Once F T k → r ≡ true) → MapFits n k C D F T H N r
+  answered some few few-links P L K O = record {
+    kept = λ t. rules-kept C D F T n k some few few-links P L (O .0 t);
+    chained = λ _. K;
+    all = λ M. O .1 (rules-once C D F T n k M);
+    len-head = h;
+    len-chain = c;
+  }

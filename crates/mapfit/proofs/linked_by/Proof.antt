@@ -46,7 +46,7 @@ element-copy-out-if1 c = search needs
 
 -- src/lib.rt:200:13
 returns : tie.Need-returns Inv-loop μ-loop
-returns c = let l = c .before .before .before .loop in let s = c .before .before .before .before .before in linked-found _ _ _ _ _ (l .l - 1) (omega (arith, l .inv .within)) (l .inv .leaves (l .l - 1) (omega arith)) (c .if1 .taken)
+returns c = let l = c .before .before .before .loop in let s = c .before .before .before .before .before in linked-found (s .args .from .now) (s .args .to .now) _ _ _ (l .l - 1) (omega (arith, l .inv .within)) (l .inv .leaves (l .l - 1) (omega arith)) (c .if1 .taken)
 
 -- src/lib.rt:202:19
 sub-l : tie.Need-sub-l Inv-loop μ-loop
@@ -74,7 +74,7 @@ loop-again c = let l = c .before .before .before .before .loop in let s = c .bef
 
 -- src/lib.rt:183:1
 returns-2 : tie.Need-returns-2 Inv-loop μ-loop
-returns-2 c = let l = c .before .loop in let e : l .l ≡ 0 = omega arith in linked-nowhere _ _ _ _ _ (rw e at (l .inv))
+returns-2 c = let l = c .before .loop in let s = c .before .before .before in let e : l .l ≡ 0 = omega arith in linked-nowhere (s .args .from .now) (s .args .to .now) _ _ _ (rw e at (l .inv))
 
 pub linked-by-spec : {M : Type 1} → statement M
 linked-by-spec =
