@@ -1,20 +1,17 @@
 -- What a map's arrays are tested for, and that the tests together are the map's rules: the rules speak of the lists of places and links
 -- that the arrays stand for, and the test of the entry at an index is the rule at that index.
-use Prim.Native.Nat.{ℕ, zero, suc, _+_, _-_, _≤_, _<_}
-use mathlib.Core.Path.{_≡_, refl, sym, ap, subst, _∙_}
-use mathlib.Core.Logic.{_⊎_, inl, inr, ⊎-elim}
+use Prim.Native.Nat.{ℕ, _+_, _-_, _≤_, _<_}
+use mathlib.Core.Path.{_≡_, refl, sym, ap, _∙_}
 use mathlib.Core.Bool.{Bool, true, false}
 use mathlib.Core.List.{List}
 use native.Mathlib.Omega.{arith}
 use borrow.Author.Count.{below-more}
-use lib.ListN.{length, getD}
-use Rattle.laws.specs.Order.{lt-or-ge}
+use lib.ListN.{length}
 use Rattle.laws.specs.Tests.{not-both}
 use Rattle.laws.specs.Lists.{at}
-use Rattle.rules.specs.declared.Place.{Place}
 use Rattle.rules.specs.declared.Link.{Link}
-use Rattle.rules.specs.Limits.{placeLimit, capacityLimit, durationLimit, linkLimit}
-use Rattle.rules.specs.Map.{MapRules, placeAt, linkAt}
+use Rattle.rules.specs.Limits.{capacityLimit, durationLimit}
+use Rattle.rules.specs.Map.{MapRules}
 use Rattle.flat.specs.Flat.{placesIn, linksIn, Chained}
 use Rattle.flat.specs.Laws.{places-long, place-in, links-long, link-in}
 
@@ -103,17 +100,21 @@ module _ (C D F T : List ℕ) (n k : ℕ) where
     rules-few-links = omega (arith, M .few-links, links-long F T k)
 
     pub rules-places : PlacesFit C D n
-    rules-places = record { each = λ p h.
-      let g : p < length (placesIn C D n) = omega (arith, places-long C D n) in
-      let e = place-in C D n p h in
-      record { cap-from = rw e at (M .cap-from p g); cap-to = rw e at (M .cap-to p g); dur-from = rw e at (M .dur-from p g); dur-to = rw e at (M .dur-to p g) } }
+    rules-places = record {
+      each = λ p h.
+          let g : p < length (placesIn C D n) = omega (arith, places-long C D n) in
+          let e = place-in C D n p h in
+          record { cap-from = rw e at (M .cap-from p g); cap-to = rw e at (M .cap-to p g); dur-from = rw e at (M .dur-from p g); dur-to = rw e at (M .dur-to p g) };
+    }
 
     pub rules-links : LinksFit F T n k
-    rules-links = record { each = λ j h.
-      let g : j < length (linksIn F T k) = omega (arith, links-long F T k) in
-      let e = link-in F T k j h in
-      let l = places-long C D n in
-      record { from-on = rw (e, l) at (M .from-on j g); to-on = rw (e, l) at (M .to-on j g); apart = rw e at (M .apart j g) } }
+    rules-links = record {
+      each = λ j h.
+          let g : j < length (linksIn F T k) = omega (arith, links-long F T k) in
+          let e = link-in F T k j h in
+          let l = places-long C D n in
+          record { from-on = rw (e, l) at (M .from-on j g); to-on = rw (e, l) at (M .to-on j g); apart = rw e at (M .apart j g) };
+    }
 
     pub rules-once : Once F T k
     rules-once = record { twice = λ i j h g a b. M .once i j h (omega (arith, links-long F T k)) (link-in F T k i (omega arith) ∙ (λ x. record { from = a x; to = b x }) ∙ sym (link-in F T k j g)) }

@@ -3,20 +3,20 @@
 use Prim.Native.Nat.{ℕ, zero, suc, _+_, _-_, _≤_, _<_}
 use mathlib.Core.Path.{_≡_, refl, sym, ap, subst, _∙_}
 use mathlib.Core.Logic.{_⊎_, inl, inr, ⊎-elim}
-use mathlib.Core.Bool.{Bool, true, false, _&&_, _||_}
+use mathlib.Core.Bool.{Bool, true, false, _&&_}
 use mathlib.Core.List.{List, [], _∷_}
 use native.Mathlib.Omega.{arith}
-use lib.ListN.{length, getD, set, length-set, replicate, length-replicate}
+use lib.ListN.{length, set, length-set, replicate, length-replicate}
 use lib.Seq.{getD-set-same, getD-set-other}
 use lib.Dec.{eqb}
 use borrow.Author.Tests.{eq-eqb}
 use borrow.Author.Count.{below-more}
 use Rattle.laws.specs.Order.{lt-or-ge, eq-or-ne}
-use Rattle.laws.specs.Tests.{true-or-false, not-both, and-in, or-l, or-r}
+use Rattle.laws.specs.Tests.{true-or-false, and-in, or-l, or-r}
 use Rattle.laws.specs.Lists.{at}
 use Rattle.rules.specs.declared.Link.{Link}
 use Rattle.rules.specs.Map.{linkAt, linked}
-use Rattle.lanes.specs.Yards.{LinkAt, linked-at}
+use Rattle.lanes.specs.Yards.{linked-at}
 use Rattle.flat.specs.Flat.{linksIn, lastBefore, Chained}
 use Rattle.flat.specs.Laws.{links-long, link-in, last-here, last-other, last-is}
 use Rattle.mapfit.specs.Fits.{OnceFrom, Once}
@@ -121,10 +121,10 @@ module _ (F T : List ℕ) (p q k : ℕ) where
   pub linked-nowhere : Walk F p k 0 (Elsewhere T q) → false ≡ linked (linksIn F T k) p q
   linked-nowhere W = ⊎-elim
       (λ (t : linked (linksIn F T k) p q ≡ true).
-        let x = linked-at (linksIn F T k) p q t in
-        let h : x .at < k = omega (arith, x .within, links-long F T k) in
-        let e = link-in F T k (x .at) h in
-        absurd (W .passed (x .at) (omega arith) h (sym (ap (λ (y : Link). y .from) e) ∙ x .from) (sym (ap (λ (y : Link). y .to) e) ∙ x .to)))
+      let x = linked-at (linksIn F T k) p q t in
+      let h : x .at < k = omega (arith, x .within, links-long F T k) in
+      let e = link-in F T k (x .at) h in
+      absurd (W .passed (x .at) (omega arith) h (sym (ap (λ (y : Link). y .from) e) ∙ x .from) (sym (ap (λ (y : Link). y .to) e) ∙ x .to)))
       (λ (t : linked (linksIn F T k) p q ≡ false). sym t)
       (true-or-false (linked (linksIn F T k) p q))
 

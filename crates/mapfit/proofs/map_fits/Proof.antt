@@ -1,61 +1,48 @@
-use Prim.Native.Nat.{ℕ, _+_, _-_, _≤_, _<_}
-use mathlib.Core.Path.{_≡_, refl, sym, ap, subst, _∙_}
-use mathlib.Core.Bool.{Bool, true, false}
+-- `mapfit::map_fits` meets its contract: each early answer is a rule that the map breaks, and the last call decides the one rule that is left.
+-- The lists of links are made before it, for that call and for the caller.
 use native.Mathlib.Omega.{arith}
-use lib.ListN.{length, getD}
-use borrow.Author.Tests.{eq-eqb, ne-eqb, eqb-true, eqb-false, not-true, not-false}
-use Rattle.laws.specs.Tests.{not-both}
-use Rattle.laws.specs.Lists.{at}
-use Rattle.flat.specs.Flat.{Chained}
-use Rattle.mapfit.specs.Fits.{PlacesFit, LinksFit, Once, MapFits, no-place, many-places, many-links, bad-place, bad-link, answered}
-use Rattle.mapfit.specs.Walk.{Linking}
+use borrow.Author.Tests.{not-true, not-false}
 use borrow.Author.Needs.{needs}
+use Rattle.laws.specs.Tests.{not-both}
+use Rattle.mapfit.specs.Fits.{no-place, many-places, many-links, bad-place, bad-link, answered}
 use Rattle.mapfit.proofs.map_fits.Statement.{statement}
 use Rattle.mapfit.proofs.map_fits.Tie as tie
-use Rattle.mapfit.proofs.map_fits.Reads as reads
-use Rattle.mapfit.proofs.map_fits.Lts as lts
-use Rattle.mapfit.proofs.chain_links.Reads as chain-links-reads
-use Rattle.mapfit.proofs.links_fit.Reads as links-fit-reads
-use Rattle.mapfit.proofs.links_once.Reads as links-once-reads
-use Rattle.mapfit.proofs.places_fit.Reads as places-fit-reads
 
--- src/lib.rt:171:9
 returns : tie.Need-returns
 returns c = let s = c .before in no-place (s .pre .0) (s .pre .1 .0) (c .if1 .taken)
 
--- src/lib.rt:174:9
 returns-2 : tie.Need-returns-2
 returns-2 c = let s = c .before .before in many-places (s .pre .0) (s .pre .1 .0) (c .if2 .taken)
 
--- src/lib.rt:177:9
 returns-3 : tie.Need-returns-3
 returns-3 c = let s = c .before .before .before in many-links (s .pre .0) (s .pre .1 .0) (c .if3 .taken)
 
--- src/lib.rt:179:9
 places-fit-requires : tie.Need-places-fit-requires
 places-fit-requires c κs = search needs
 
--- src/lib.rt:180:9
 returns-4 : tie.Need-returns-4
-returns-4 c = let s = c .before .before .before .before .before in bad-place (s .pre .0) (s .pre .1 .0) (λ P. not-both (c .before .places-fit .ensures .1 P) (not-true (c .before .places-fit .result) (c .if4 .taken)))
+returns-4 c =
+    let s = c .before .before .before .before .before in
+    bad-place (s .pre .0) (s .pre .1 .0) (λ P. not-both (c .before .places-fit .ensures .1 P) (not-true (c .before .places-fit .result) (c .if4 .taken)))
 
--- src/lib.rt:182:9
 links-fit-requires : tie.Need-links-fit-requires
 links-fit-requires c κs = search needs
 
--- src/lib.rt:183:9
 returns-5 : tie.Need-returns-5
-returns-5 c = let s = c .before .before .before .before .before .before .before in bad-link (s .pre .0) (s .pre .1 .0) (λ L. not-both (c .before .links-fit .ensures .1 L) (not-true (c .before .links-fit .result) (c .if5 .taken)))
+returns-5 c =
+    let s = c .before .before .before .before .before .before .before in
+    bad-link (s .pre .0) (s .pre .1 .0) (λ L. not-both (c .before .links-fit .ensures .1 L) (not-true (c .before .links-fit .result) (c .if5 .taken)))
 
--- src/lib.rt:185:5
 chain-links-requires : tie.Need-chain-links-requires
 chain-links-requires c κs = search needs
 
--- src/lib.rt:186:5
 links-once-requires : tie.Need-links-once-requires
-links-once-requires c κs = let x = c .before .before in let y = x .before .before .before in let L = y .before .links-fit .ensures .0 (not-false (y .before .links-fit .result) (y .if5 .left)) in (omega arith, (omega arith, (x .chain-links .ensures .lists, λ j h. L .each j h .from-on)))
+links-once-requires c κs =
+    let x = c .before .before in
+    let y = x .before .before .before in
+    let L = y .before .links-fit .ensures .0 (not-false (y .before .links-fit .result) (y .if5 .left)) in
+    (omega arith, (omega arith, (x .chain-links .ensures .lists, λ j h. L .each j h .from-on)))
 
--- src/lib.rt:155:1
 returns-6 : tie.Need-returns-6
 returns-6 c =
     let x = c .before .before .before in
