@@ -1,0 +1,6 @@
+pub mod Sums
+pub mod Sweep
+pub mod Loads
+pub mod Written
+pub mod Turns
+pub mod Places
