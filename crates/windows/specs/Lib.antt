@@ -4,3 +4,4 @@ pub mod Loads
 pub mod Written
 pub mod Turns
 pub mod Places
+pub mod Runs

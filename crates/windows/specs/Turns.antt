@@ -1,7 +1,7 @@
 -- The sweep's state after n rows: from the last entry on, the load is the number of kept exits above the second, so the place is full exactly while
 -- the least of them lies ahead. Holds at first, kept by a turn in each of its three cases, gives the answer.
 use Prim.Native.Nat.{ℕ, zero, suc, _+_, _-_, _≤_, _<_}
-use mathlib.Core.Path.{_≡_, refl, sym, _∙_}
+use mathlib.Core.Path.{_≡_, refl, sym, subst, _∙_}
 use mathlib.Core.Logic.{⊎-elim}
 use mathlib.Core.List.{List}
 use native.Mathlib.Omega.{arith}
@@ -129,10 +129,11 @@ module _
 pub answer-over : {L : ℕ → ℕ} {c d p from n : ℕ} {was : ℕ → Span} {S E P : List ℕ} → length S ≡ 1280 → length E ≡ 1280 → length P ≡ 1280 → (t : ℕ) × (c < L t) → Sweep L c d p from n was 1281 S E P
 answer-over lS lE lP z = record { len-S = lS; len-E = lE; len-P = lP; bound = omega arith; overfull = λ _. z; fits = λ q. absurd (omega arith); few = λ q. absurd (omega arith); swept = λ q. absurd (omega arith) }
 
-module _ {en ex : ℕ → ℕ} {c d p from n : ℕ} {was : ℕ → Span} {top : List ℕ} {low free w : ℕ} {S E P : List ℕ}
-    (dp : 1 ≤ d) (m : from + n < 1280) (I : State en ex c d p from was n top low free w S E P) where
+-- all n rows are swept
+module _ {en ex : ℕ → ℕ} {c d p from n i : ℕ} {was : ℕ → Span} {top : List ℕ} {low free w : ℕ} {S E P : List ℕ}
+    (dp : 1 ≤ d) (m : from + n < 1280) (e : i ≡ n) (I : State en ex c d p from was i top low free w S E P) where
   pub answer-short : day < free + d → Sweep (loadTo en ex n) c d p from n was w S E P
-  answer-short k = record {
+  answer-short k = subst (λ j. Sweep (loadTo en ex j) c d p from j was w S E P) e (record {
     len-S = I .len-S;
     len-E = I .len-E;
     len-P = I .len-P;
@@ -141,10 +142,10 @@ module _ {en ex : ℕ → ℕ} {c d p from n : ℕ} {was : ℕ → Span} {top : 
     fits = λ _. I .fits;
     few = λ _. omega (arith, I .few);
     swept = λ _. swept-short (I .written) dp k;
-  }
+  })
 
   pub answer-more : free + d ≤ day → Sweep (loadTo en ex n) c d p from n was (w + 1) (set S w free) (set E w day) (set P w p)
-  answer-more k = record {
+  answer-more k = subst (λ j. Sweep (loadTo en ex j) c d p from j was (w + 1) (set S w free) (set E w day) (set P w p)) e (record {
     len-S = length-set S w free ∙ I .len-S;
     len-E = length-set E w day ∙ I .len-E;
     len-P = length-set P w p ∙ I .len-P;
@@ -153,4 +154,4 @@ module _ {en ex : ℕ → ℕ} {c d p from n : ℕ} {was : ℕ → Span} {top : 
     fits = λ _. I .fits;
     few = λ _. omega (arith, I .few);
     swept = λ _. swept-more (I .written) dp k (put-arrays S E P w p free day (omega (arith, I .few, I .len-S)) (omega (arith, I .few, I .len-E)) (omega (arith, I .few, I .len-P)));
-  }
+  })
