@@ -5,3 +5,6 @@ pub mod Written
 pub mod Turns
 pub mod Places
 pub mod Runs
+pub mod Groups
+pub mod Listed
+pub mod Going
