@@ -1,6 +1,6 @@
 -- All places, one after the other: the first p are done, their rows are the first a, their windows the first w. Holds at first, kept by a turn,
 -- gives the answer.
-use Prim.Native.Nat.{ℕ, zero, suc, _+_, _-_, _≤_, _<_}
+use Prim.Native.Nat.{ℕ, _+_, _-_, _≤_, _<_}
 use mathlib.Core.Path.{_≡_, refl, sym, ap, subst, _∙_}
 use mathlib.Core.Logic.{⊎-elim}
 use mathlib.Core.List.{List}
@@ -9,11 +9,9 @@ use lib.ListN.{length, set, length-set}
 use borrow.Author.Count.{below-more}
 use Rattle.laws.specs.Order.{lt-or-ge}
 use Rattle.laws.specs.Lists.{at}
-use Rattle.rules.specs.Limits.{day}
-use Rattle.rules.specs.Rows.{load}
 use Rattle.rules.specs.Window.{Span}
 use Rattle.flat.specs.Flat.{placeOf, rowsIn, spanAt, Grouped}
-use Rattle.windows.specs.Sweep.{loadTo, entriesFrom, exitsFrom, Sweepable, Sweep}
+use Rattle.windows.specs.Sweep.{runLoad, Sweepable, Sweep}
 use Rattle.windows.specs.Places.{Past, Given, AllWindows}
 use Rattle.windows.specs.Runs.{Run, past-run, run-order, loadAt, load-rows, load-run}
 use Rattle.windows.specs.Groups.{grouped-none, grouped-next}
@@ -76,7 +74,7 @@ module _ {n count : ℕ} {C D K X : List ℕ} {p a w : ℕ} {R S E P F : List �
     }
 
     module _ {r : ℕ} {S′ E′ P′ : List ℕ}
-        (A′ : Sweep (loadTo (entriesFrom K a) (exitsFrom X a) (b - a)) (at C p) (at D p) p w (b - a) (spanAt P S E) r S′ E′ P′)
+        (A′ : Sweep (runLoad K X a b) (at C p) (at D p) p w (b - a) (spanAt P S E) r S′ E′ P′)
       where
         A : Sweep (loadAt K X count p) (at C p) (at D p) p w (b - a) (spanAt P S E) r S′ E′ P′
         A = sweep-same (λ t. sym (load-run X run t)) A′

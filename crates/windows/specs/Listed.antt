@@ -1,7 +1,7 @@
 -- The windows of the first n places, listed place by place: the windows of the next place come after them, and those of all places are the nodes
 -- of the search.
-use Prim.Native.Nat.{ℕ, zero, suc, _+_, _≤_, _<_}
-use mathlib.Core.Path.{_≡_, refl, sym, ap, subst, _∙_}
+use Prim.Native.Nat.{ℕ, _+_, _≤_, _<_}
+use mathlib.Core.Path.{_≡_, sym, ap, subst, _∙_}
 use mathlib.Core.Logic.{⊎-elim}
 use mathlib.Core.List.{List}
 use native.Mathlib.Omega.{arith}
@@ -16,13 +16,13 @@ use Rattle.flat.specs.Flat.{Of}
 use Rattle.windows.specs.Sweep.{FreeStretch, span, Found, Swept, Sweep}
 
 -- v is a free window of its place, whose load is L
-abbrev Is : (ℕ → ℕ → ℕ) → List ℕ → List ℕ → Span → Type 0
+abbrev pub Is : (ℕ → ℕ → ℕ) → List ℕ → List ℕ → Span → Type 0
 Is L C D v = FreeStretch (L (v .place)) (at C (v .place)) (at D (v .place)) (v .from) (v .to)
 
 pub record Listed (L : ℕ → ℕ → ℕ) (C D : List ℕ) (n w : ℕ) (win : ℕ → Span) : Type 0 where
   pub on-map : (i : ℕ) → i < w → (win i) .place < n
-  pub are : (i : ℕ) → i < w → FreeStretch (L ((win i) .place)) (at C ((win i) .place)) (at D ((win i) .place)) ((win i) .from) ((win i) .to)
-  pub all : (v : Span) → v .place < n → FreeStretch (L (v .place)) (at C (v .place)) (at D (v .place)) (v .from) (v .to) → Found win 0 w v
+  pub are : (i : ℕ) → i < w → Is L C D (win i)
+  pub all : (v : Span) → v .place < n → Is L C D v → Found win 0 w v
   pub by-place : (i j : ℕ) → i < j → j < w → (win i) .place ≤ (win j) .place
   pub by-start : (i j : ℕ) → i < j → j < w → (win i) .place ≡ (win j) .place → (win i) .from < (win j) .from
 

@@ -1,21 +1,17 @@
 -- The rows of one place are one run of the rows in key order: how its end is found, and that the place's load is the run's.
-use Prim.Native.Nat.{ℕ, zero, suc, _+_, _-_, _/_, _%_, _≤_, _<_}
-use mathlib.Core.Path.{_≡_, refl, sym, ap, subst, _∙_}
+use Prim.Native.Nat.{ℕ, zero, suc, _+_, _-_, _≤_, _<_}
+use mathlib.Core.Path.{_≡_, refl, sym, ap, _∙_}
 use mathlib.Core.Logic.{⊎-elim}
-use mathlib.Core.Bool.{Bool, true, false, _&&_}
-use mathlib.Core.List.{List, [], _∷_}
+use mathlib.Core.List.{List}
 use native.Mathlib.Omega.{arith}
-use lib.ListN.{length, getD}
-use lib.Dec.{eqb}
 use borrow.Author.Tests.{eq-eqb, ne-eqb}
-use borrow.Author.Count.{below-more}
 use Rattle.laws.specs.Order.{lt-or-ge}
 use Rattle.laws.specs.Lists.{at, tabulate}
 use Rattle.rules.specs.declared.Row.{Row}
 use Rattle.rules.specs.Rows.{covers, bit, load}
-use Rattle.flat.specs.Flat.{placeOf, entryOf, rowOf, rowsIn, KeysRise}
+use Rattle.flat.specs.Flat.{placeOf, entryOf, rowOf, rowsIn}
 use Rattle.windows.specs.Sums.{sum, sum-first, sum-same, sum-run}
-use Rattle.windows.specs.Sweep.{covered, loadTo, entriesFrom, exitsFrom, InOrder}
+use Rattle.windows.specs.Sweep.{covered, loadTo, entriesFrom, exitsFrom, runLoad, InOrder}
 use Rattle.windows.specs.Places.{Past, Given}
 
 -- ---- the end of a run, looked for from row a on
@@ -102,7 +98,7 @@ unfolding covers covered
 covers-here q e x p t h = rw (eq-eqb q p h)
 
 -- the load of a place is the load of its run
-pub load-run : {K : List ℕ} (X : List ℕ) {count p a b : ℕ} → Run K count p a b → (t : ℕ) → loadAt K X count p t ≡ loadTo (entriesFrom K a) (exitsFrom X a) (b - a) t
+pub load-run : {K : List ℕ} (X : List ℕ) {count p a b : ℕ} → Run K count p a b → (t : ℕ) → loadAt K X count p t ≡ runLoad K X a b t
 unfolding loadAt loadTo
 load-run {K} X {count} {p} {a} {b} R t =
     let f : ℕ → ℕ = λ i. bit (covers (placeOf (at K i)) (entryOf (at K i)) (at X i) p t) in

@@ -1,8 +1,8 @@
 -- What the sweep of one place asks and answers: its load as a function of the second, its free windows as the longest stretches where that load
 -- is below capacity, and the windows written.
-use Prim.Native.Nat.{ℕ, zero, suc, _+_, _-_, _≤_, _<_}
+use Prim.Native.Nat.{ℕ, suc, _+_, _-_, _≤_, _<_}
 use mathlib.Core.Path.{_≡_}
-use mathlib.Core.Bool.{Bool, true, false, _&&_}
+use mathlib.Core.Bool.{_&&_}
 use mathlib.Core.List.{List}
 use lib.ListN.{length}
 use lib.Dec.{leb, ltb}
@@ -35,6 +35,10 @@ entriesFrom K a i = entryOf (at K (a + i))
 
 abbrev pub exitsFrom : List ℕ → ℕ → ℕ → ℕ
 exitsFrom X a i = at X (a + i)
+
+-- how many of the rows a .. b - 1 cover second t
+abbrev pub runLoad : List ℕ → List ℕ → ℕ → ℕ → ℕ → ℕ
+runLoad K X a b t = loadTo (entriesFrom K a) (exitsFrom X a) (b - a) t
 
 -- rows in order of entry, each within the day
 pub record InOrder (en ex : ℕ → ℕ) (n : ℕ) : Type 0 where

@@ -1,7 +1,7 @@
 -- The sweep's state after n rows: from the last entry on, the load is the number of kept exits above the second, so the place is full exactly while
 -- the least of them lies ahead. Holds at first, kept by a turn in each of its three cases, gives the answer.
-use Prim.Native.Nat.{ℕ, zero, suc, _+_, _-_, _≤_, _<_}
-use mathlib.Core.Path.{_≡_, refl, sym, subst, _∙_}
+use Prim.Native.Nat.{ℕ, _+_, _≤_, _<_}
+use mathlib.Core.Path.{_≡_, sym, subst, _∙_}
 use mathlib.Core.Logic.{⊎-elim}
 use mathlib.Core.List.{List}
 use native.Mathlib.Omega.{arith}
@@ -12,7 +12,7 @@ use Rattle.laws.specs.Lists.{at}
 use Rattle.rules.specs.Limits.{day}
 use Rattle.rules.specs.Window.{Span}
 use Rattle.flat.specs.Flat.{spanAt}
-use Rattle.windows.specs.Sweep.{loadTo, InOrder, LeastAt, span, Sweep}
+use Rattle.windows.specs.Sweep.{loadTo, InOrder, LeastAt, Sweep}
 use Rattle.windows.specs.Loads.{over-yes, over-no, covered-from, covered-before, above, above-le, above-none, above-all, above-some, above-set, load-none, load-next, load-more, lastEntry, last-none, last-next, last-le}
 use Rattle.windows.specs.Written.{Written, put-arrays, written-none, written-room, written-short, written-more, swept-short, swept-more}
 

@@ -1,6 +1,6 @@
 -- Windows written so far: one turn of the sweep adds at most one, and those before it stay windows, because a row changes no load before its entry
 -- and lowers none.
-use Prim.Native.Nat.{ℕ, zero, suc, _+_, _-_, _≤_, _<_}
+use Prim.Native.Nat.{ℕ, suc, _+_, _-_, _≤_, _<_}
 use mathlib.Core.Path.{_≡_, refl, sym, ap, subst, _∙_}
 use mathlib.Core.Logic.{⊎-elim}
 use mathlib.Core.List.{List}

@@ -1,9 +1,9 @@
 // All free windows of a book, by one sweep a place over the rows in key order.
 ghost use mathlib.Core.Path.{_≡_};
-ghost use Prim.Native.Nat.{ℕ, _+_, _-_, _*_, _/_, _%_, _≤_, _<_};
-ghost use lib.ListN.{length, getD};
+ghost use Prim.Native.Nat.{_-_, _≤_};
+ghost use lib.ListN.{length};
 ghost use Rattle.flat.specs.Flat.{placeOf, entryOf, spanAt};
-ghost use Rattle.windows.specs.Sweep.{loadTo, entriesFrom, exitsFrom, Sweepable, Sweep, LeastAt};
+ghost use Rattle.windows.specs.Sweep.{runLoad, Sweepable, Sweep, LeastAt};
 ghost use Rattle.windows.specs.Places.{Past, Given, AllWindows};
 
 // a key is place * 2^48 + entry * 2^24 + ticket
@@ -55,7 +55,7 @@ fn sweep(
     requires { ⌜ length (now start) ≡ 1280 ⌝ }
     requires { ⌜ length (now end) ≡ 1280 ⌝ }
     requires { ⌜ length (now place) ≡ 1280 ⌝ }
-    ensures { λ r. ⌜ Sweep (loadTo (entriesFrom (now (key .entry)) a) (exitsFrom (now (exit .entry)) a) (b - a)) c d p from (b - a) (spanAt (now (place .entry)) (now (start .entry)) (now (end .entry))) r (now (start .exit)) (now (end .exit)) (now (place .exit)) ⌝ }
+    ensures { λ r. ⌜ Sweep (runLoad (now (key .entry)) (now (exit .entry)) a b) c d p from (b - a) (spanAt (now (place .entry)) (now (start .entry)) (now (end .entry))) r (now (start .exit)) (now (end .exit)) (now (place .exit)) ⌝ }
 {
     let n = b - a;
     let mut top = [0u32; 16];

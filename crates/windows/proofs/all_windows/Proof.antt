@@ -2,7 +2,7 @@
 -- loop keeps this for the first p places, whose rows are the first a and whose windows the first w: `past` finds the run of rows of place p, and
 -- the sweep adds its windows after those. A place has at most one window more than rows, so there are never more than 1,280. n - p falls.
 use native.Mathlib.Omega.{arith}
-use Prim.Native.Nat.{_≤_, _-_}
+use Prim.Native.Nat.{_-_}
 use Rattle.windows.specs.Going.{Going, going-none, going-sweepable, going-over, going-next, going-done}
 use borrow.Author.Needs.{needs}
 use Rattle.windows.proofs.all_windows.Statement.{statement}

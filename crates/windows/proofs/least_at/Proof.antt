@@ -2,7 +2,7 @@
 -- turn compares one more, and c - k falls.
 use native.Mathlib.Omega.{arith}
 use Prim.Native.Nat.{_≤_, _-_}
-use mathlib.Core.Path.{sym, subst}
+use mathlib.Core.Path.{subst}
 use mathlib.Core.Logic.{⊎-elim}
 use Rattle.windows.specs.Sweep.{LeastAt}
 use Rattle.windows.specs.Loads.{least-first, least-take, least-keep}

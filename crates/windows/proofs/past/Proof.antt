@@ -1,7 +1,6 @@
 -- The number returned is the first row from a on that is not of place p, count where there is none. The loop keeps that the rows passed over are
 -- of p; it ends at the first that is not or at the last row, and count - i falls.
-use native.Mathlib.Omega.{arith}
-use Prim.Native.Nat.{_≤_, _-_}
+use Prim.Native.Nat.{_-_}
 use mathlib.Core.Path.{sym, _∙_}
 use borrow.Author.Needs.{needs}
 use Rattle.windows.specs.Runs.{Passing, passing-none, passing-next, past-here, past-end}

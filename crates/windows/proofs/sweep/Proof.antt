@@ -4,10 +4,9 @@
 -- n - i falls.
 use native.Mathlib.Omega.{arith}
 use Prim.Native.Nat.{ℕ, _≤_, _-_}
-use lib.ListN.{replicate, length-replicate, length, set, getD}
-use mathlib.Core.Path.{sym, subst}
+use lib.ListN.{replicate, length-replicate}
 use mathlib.Core.Logic.{⊎-elim}
-use Rattle.windows.specs.Sweep.{loadTo, entriesFrom, exitsFrom, Sweep}
+use Rattle.windows.specs.Sweep.{entriesFrom, exitsFrom}
 use Rattle.windows.specs.Loads.{zeros}
 use Rattle.windows.specs.Turns.{State, state-none, too-many, state-room, state-short, state-more, answer-over, answer-short, answer-more}
 use Rattle.flat.specs.Flat.{spanAt}
