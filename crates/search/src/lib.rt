@@ -8,10 +8,11 @@ ghost use Rattle.rules.specs.Rows.{crosses};
 ghost use Rattle.flat.specs.Flat.{rowsIn, placeOf, yardIn};
 ghost use Rattle.settle.specs.Blocks.{Blocks};
 ghost use Rattle.search.specs.Entries.{FirstClear};
-ghost use Rattle.search.specs.Offers.{Row1, Labels, Tried, OfferedTo, OpenFrom};
-ghost use Rattle.settle.specs.Search.{Answer};
+ghost use Rattle.search.specs.Offers.{Row1, Labels, Tried, OfferedTo, OpenFrom, BeginsAt};
+ghost use Rattle.settle.specs.Search.{Answer, Rooted};
 ghost use Rattle.search.specs.Relax.{Ground, Relaxed, nextBy};
 ghost use Rattle.search.specs.Lanes.{Lanes, atDest};
+ghost use Rattle.search.specs.Trail.{Trailed};
 
 fn wide(x: u8) -> usize
     ensures { λ r. ⌜ (r ≡ x) × (r < 256) ⌝ }
@@ -358,4 +359,48 @@ pub fn search(
         settle::close(&mut live, &mut least, w);
         relax(places, links, windows, dur, from, to, head, chain, place, start, end, first, key, exit, next, n, w, label, &mut live, &mut least, before);
     }
+}
+
+// The window of a .. b that may be entered at s for d seconds, 1,280 where there is none.
+pub fn begin_at(
+    start: &[u32; 1280],
+    end: &[u32; 1280],
+    a: usize,
+    b: usize,
+    s: u32,
+    d: u32,
+) -> usize
+    requires { ⌜ (a ≤ b) × (b ≤ 1280) × (s ≤ 86400) × (d ≤ 3600) ⌝ }
+    requires { ⌜ Row1 (now start) (now end) a b d ⌝ }
+    ensures { λ r. ⌜ BeginsAt (now (start .entry)) (now (end .entry)) a b s d r ⌝ }
+{
+    let w = first_open(end, a, b, s + d);
+    if w >= b {
+        return 1280;
+    }
+    if s < start[w] {
+        return 1280;
+    }
+    w
+}
+
+// The windows that lead to w, itself the last, in travel order; how many.
+pub fn trail(
+    before: &[u16; 1280],
+    label: &[u32; 1280],
+    w: usize,
+    path: &mut [u16; 1280],
+) -> usize
+    requires { ⌜ Rooted (now label) (now before) w ⌝ }
+    requires { ⌜ length (now path) ≡ 1280 ⌝ }
+    ensures { λ r. ⌜ Trailed (now (label .entry)) (now (before .entry)) w r (now (path .exit)) ⌝ }
+{
+    let v = broad(before[w]);
+    if v < 1 {
+        path[0] = w as u16;
+        return 1;
+    }
+    let k = trail(before, label, v - 1, path);
+    path[k] = w as u16;
+    k + 1
 }
