@@ -2,9 +2,12 @@
 -- read from them hold keeps the rules. The limits on the counts are among the rules, since the lists read have as many entries as the counts say.
 use Prim.Native.Nat.{ℕ, zero, suc, _+_, _*_, _≤_, _<_}
 use mathlib.Core.Path.{_≡_, refl, sym, ap, ap₂, _∙_}
+use mathlib.Core.Bool.{true, false}
 use mathlib.Core.List.{List, [], _∷_}
 use native.Mathlib.Omega.{arith}
 use lib.ListN.{length}
+use lib.Dec.{eqb}
+use borrow.Author.Tests.{eqb-true, eq-eqb}
 use Rattle.laws.specs.Lists.{length-tabulate}
 use Rattle.rules.specs.declared.Place.{Place}
 use Rattle.rules.specs.declared.Link.{Link}
@@ -15,6 +18,10 @@ use Rattle.rules.specs.Portal.{byteAt, num2, num3, placesFrom, linksFrom, rowsF
 use Rattle.flat.specs.Flat.{placesIn, linksIn, yardIn, rowsIn}
 use Rattle.wire.specs.Reading.{PlacesOf, LinksOf, RowsOf, placeBytes, linkBytes, places-table, links-table, rows-table}
 
+-- a shape that the slice has not, answered false
+pub refused : {A : Type 0} → (A → ⊥) → (false ≡ true → A) × (A → false ≡ true)
+refused f = (λ e. let z : _≡_ {A = ℕ} 0 1 = cc in absurd (omega arith), λ a. absurd (f a))
+
 -- ---- the map's slice
 
 pub record MapShape (s : List ℕ) : Type 0 where
@@ -22,6 +29,14 @@ pub record MapShape (s : List ℕ) : Type 0 where
   pub fits : length s ≡ 4 + 3 * num2 s 0 + 2 * num2 s 2
   pub few : num2 s 0 ≤ 256
   pub few-links : num2 s 2 ≤ 1024
+
+-- where the counts n and k are within the limits, the length decides
+pub map-length : (s : List ℕ) (n k : ℕ) → n ≡ num2 s 0 → k ≡ num2 s 2 → 4 ≤ length s → n ≤ 256 → k ≤ 1024
+    → (eqb (length s) (4 + 3 * n + 2 * k) ≡ true → MapShape s) × (MapShape s → eqb (length s) (4 + 3 * n + 2 * k) ≡ true)
+map-length s n k a b h p q = (
+  λ t. let e = eqb-true (length s) (4 + 3 * n + 2 * k) t in record { counts = h; fits = omega arith; few = omega arith; few-links = omega arith },
+  λ S. eq-eqb (length s) (4 + 3 * n + 2 * k) (omega arith),
+)
 
 places-count : (s : List ℕ) (a n : ℕ) → length (placesFrom s a n) ≡ n
 places-count s a n = ap length (places-table s a n) ∙ length-tabulate n (λ i. placeBytes s (a + 3 * i))
@@ -64,6 +79,14 @@ pub record BookShape (s : List ℕ) : Type 0 where
   pub counts : 5 ≤ length s
   pub fits : length s ≡ 5 + 11 * num2 s 3
   pub few : num2 s 3 ≤ 1024
+
+-- where the count n is within the limit, the length decides
+pub book-length : (s : List ℕ) (n : ℕ) → n ≡ num2 s 3 → 5 ≤ length s → n ≤ 1024
+    → (eqb (length s) (5 + 11 * n) ≡ true → BookShape s) × (BookShape s → eqb (length s) (5 + 11 * n) ≡ true)
+book-length s n a h p = (
+  λ t. let e = eqb-true (length s) (5 + 11 * n) t in record { counts = h; fits = omega arith; few = omega arith },
+  λ S. eq-eqb (length s) (5 + 11 * n) (omega arith),
+)
 
 pub book-shape : {Y : Yard} {s : List ℕ} → BookSlice Y s → BookShape s
 book-shape {Y} {s} B = record { counts = B .counts; fits = B .fits; few = omega (arith, B .formed .few, rows-count s 5 (num2 s 3)) }

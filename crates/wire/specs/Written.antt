@@ -7,8 +7,11 @@ use native.Mathlib.Omega.{arith}
 use lib.ListN.{length, take, drop, length-append, length-take, length-drop}
 use lib.Seq.{drop-length, take-at, drop-at, take-all, drop-drop, sets-eq, sets}
 use borrow.Rule.Slice.PartMut.{putMid}
+use Rattle.laws.specs.Lists.{at, tabulate, length-tabulate}
 use Rattle.rules.specs.declared.Row.{Row}
 use Rattle.rules.specs.Answer.{rowBytes, rowsBytes, written}
+use Rattle.flat.specs.Flat.{rowOf}
+use Rattle.wire.specs.Tables.{tabulate-snoc, rowsFor}
 
 pub bytes-long : (l : List Row) → length (rowsBytes l) ≡ 11 * length l
 bytes-long [] = refl
@@ -82,4 +85,24 @@ put-at-is r j was p h e n =
     record {
       over = rw (gone, e, whole, end) (ap (λ (t : List ℕ). take (11 * j) was ++ t) (append-nil (rowBytes r ++ drop (11 * (j + 1)) was)));
       long = n;
+    }
+
+-- ---- a run of rows copied from the arrays: the first j of it are written
+
+pub record Copied (K X N : List ℕ) (from j : ℕ) (was out : List ℕ) : Type 0 where
+  pub rows : out ≡ written (rowsFor K X N from j) was
+  pub long : length out ≡ length was
+
+pub copied-start : (K X N : List ℕ) (from : ℕ) (was : List ℕ) → Copied K X N from 0 was was
+unfolding tabulate
+copied-start K X N from was = record { rows = written-start was; long = refl }
+
+pub copied-next : {K X N : List ℕ} {from j : ℕ} {was out out′ : List ℕ} {r : Row} → Copied K X N from j was out
+    → r ≡ rowOf (at K (from + j)) (at X (from + j)) (at N (from + j)) → PutAt r j out out′ → Copied K X N from (j + 1) was out′
+copied-next {K} {X} {N} {from} {j} {was} {out} {out′} {r} C e P =
+    let f : ℕ → Row = λ i. rowOf (at K (from + i)) (at X (from + i)) (at N (from + i)) in
+    record {
+      rows = written-next (tabulate j f) was P (length-tabulate j f) (C .rows)
+          ∙ ap (λ (l : List Row). written l was) (ap (λ (x : Row). tabulate j f ++ (x ∷ [])) e ∙ sym (tabulate-snoc j f));
+      long = P .long ∙ C .long;
     }
