@@ -1,8 +1,8 @@
 -- Places, links and rows read from bytes into arrays of numbers, one a turn: what the arrays hold after i turns.
 -- The lists that the bytes stand for have their i-th entry at a fixed step, so arrays that agree with them index by index stand for the same lists.
-use Prim.Native.Nat.{ℕ, zero, suc, _+_, _*_, _≤_, _<_}
-use mathlib.Core.Path.{_≡_, refl, sym, ap, ap₂, _∙_}
-use mathlib.Core.List.{List, [], _∷_}
+use Prim.Native.Nat.{ℕ, zero, suc, _+_, _*_, _<_}
+use mathlib.Core.Path.{_≡_, refl, sym, ap, _∙_}
+use mathlib.Core.List.{List, _∷_}
 use mathlib.Core.Logic.{⊎-elim}
 use native.Mathlib.Omega.{arith}
 use lib.ListN.{length, set, length-set}
@@ -11,7 +11,6 @@ use Rattle.laws.specs.Order.{eq-or-ne}
 use Rattle.laws.specs.Lists.{at, tabulate}
 use Rattle.rules.specs.declared.Place.{Place}
 use Rattle.rules.specs.declared.Link.{Link}
-use Rattle.rules.specs.declared.Row.{Row}
 use Rattle.rules.specs.Portal.{byteAt, num2, num3, placesFrom, linksFrom, rowIn, rowsFrom}
 use Rattle.flat.specs.Flat.{placesIn, linksIn, rowsIn, rowOf, placeOf, entryOf, ticketOf, keyOf, Packed}
 use Rattle.flat.specs.Laws.{place-of-key, entry-of-key, ticket-of-key}

@@ -1,20 +1,17 @@
 -- A map slice and a book slice are good exactly when their shape is, the length that the counts give and counts within the limits, and what the arrays
 -- read from them hold keeps the rules. The limits on the counts are among the rules, since the lists read have as many entries as the counts say.
-use Prim.Native.Nat.{ℕ, zero, suc, _+_, _*_, _≤_, _<_}
-use mathlib.Core.Path.{_≡_, refl, sym, ap, ap₂, _∙_}
+use Prim.Native.Nat.{ℕ, _+_, _*_, _≤_}
+use mathlib.Core.Path.{_≡_, ap, ap₂, _∙_}
 use mathlib.Core.Bool.{true, false}
-use mathlib.Core.List.{List, [], _∷_}
+use mathlib.Core.List.{List}
 use native.Mathlib.Omega.{arith}
 use lib.ListN.{length}
 use lib.Dec.{eqb}
 use borrow.Author.Tests.{eqb-true, eq-eqb}
 use Rattle.laws.specs.Lists.{length-tabulate}
-use Rattle.rules.specs.declared.Place.{Place}
-use Rattle.rules.specs.declared.Link.{Link}
-use Rattle.rules.specs.declared.Row.{Row}
 use Rattle.rules.specs.Map.{Yard, yardOf, MapRules}
 use Rattle.rules.specs.Book.{WellFormed}
-use Rattle.rules.specs.Portal.{byteAt, num2, num3, placesFrom, linksFrom, rowsFrom, rowIn, slicePlaces, sliceLinks, sliceYard, MapSlice, sliceRows, sliceTicket, BookSlice}
+use Rattle.rules.specs.Portal.{num2, placesFrom, linksFrom, rowsFrom, rowIn, slicePlaces, sliceLinks, sliceYard, MapSlice, sliceRows, sliceTicket, BookSlice}
 use Rattle.flat.specs.Flat.{placesIn, linksIn, yardIn, rowsIn}
 use Rattle.wire.specs.Reading.{PlacesOf, LinksOf, RowsOf, placeBytes, linkBytes, places-table, links-table, rows-table}
 

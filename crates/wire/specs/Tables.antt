@@ -1,11 +1,11 @@
 -- Lists made of a function: two that agree at each index are equal, and one of n + 1 is one of n with one more at its end.
 -- A run of such a list is again such a list.
-use Prim.Native.Nat.{ℕ, zero, suc, _+_, _*_, _≤_, _<_}
+use Prim.Native.Nat.{ℕ, zero, suc, _+_, _≤_, _<_}
 use mathlib.Core.Path.{_≡_, refl, sym, ap, _∙_}
 use mathlib.Core.List.{List, [], _∷_, _++_}
 use native.Mathlib.Omega.{arith}
 use native.Mathlib.Numerals.{add-one}
-use lib.ListN.{length, take, drop}
+use lib.ListN.{take, drop}
 use Rattle.laws.specs.Lists.{at, tabulate}
 use Rattle.rules.specs.declared.Row.{Row}
 use Rattle.flat.specs.Flat.{rowOf, rowsIn}

@@ -1,10 +1,10 @@
 -- Rows written as records of 11 bytes, one behind the other. A row put over record j, where the j records before it hold the rows so far,
 -- makes one more row written: its bytes come behind theirs, and what lies after the record is as it was.
-use Prim.Native.Nat.{ℕ, zero, suc, _+_, _-_, _*_, _/_, _%_, _≤_, _<_}
-use mathlib.Core.Path.{_≡_, refl, sym, ap, _∙_}
+use Prim.Native.Nat.{ℕ, _+_, _-_, _*_, _/_, _%_, _≤_, _<_}
+use mathlib.Core.Path.{_≡_, refl, sym, ap, ap₂, _∙_}
 use mathlib.Core.List.{List, [], _∷_, _++_, append-assoc, append-nil}
 use native.Mathlib.Omega.{arith}
-use lib.ListN.{length, take, drop, length-append, length-take, length-drop}
+use lib.ListN.{length, take, drop, length-append, length-drop}
 use lib.Seq.{drop-length, take-at, drop-at, take-all, drop-drop, sets-eq, sets}
 use borrow.Rule.Slice.PartMut.{putMid}
 use Rattle.laws.specs.Lists.{at, tabulate, length-tabulate}
@@ -42,8 +42,8 @@ written-next l first {r} {j} {was} {out} P n e =
     let two : 11 * j + 11 ≡ 11 * (j + 1) = omega arith in
     let more : 11 * length l + 11 ≡ 11 * length (l ++ (r ∷ [])) = omega (arith, length-append l (r ∷ [])) in
     let end : drop (11 * (j + 1)) was ≡ drop (11 * length (l ++ (r ∷ []))) first =
-        ap (λ (k : ℕ). drop k was) (sym two) ∙ sym (drop-drop 11 (11 * j) was) ∙ ap (drop 11) rest ∙ drop-drop 11 (11 * length l) first
-        ∙ ap (λ (k : ℕ). drop k first) more in
+    ap (λ (k : ℕ). drop k was) (sym two) ∙ sym (drop-drop 11 (11 * j) was) ∙ ap (drop 11) rest ∙ drop-drop 11 (11 * length l) first
+    ∙ ap (λ (k : ℕ). drop k first) more in
     P .over
     ∙ rw (front, end) (sym (append-assoc f (rowBytes r) (drop (11 * length (l ++ (r ∷ []))) first)))
     ∙ ap (λ (t : List ℕ). t ++ drop (11 * length (l ++ (r ∷ []))) first) (sym (bytes-append l (r ∷ [])))
@@ -54,21 +54,21 @@ written-long l was h =
 
 -- ---- the stores of one row
 
--- the 11 stores of a row's fields over the front of a slice
-pub put-row-is : (r : Row) (s : List ℕ) → r .place < 256 → r .next < 256 → 11 ≤ length s
-    → sets s 0 (r .place ∷ (r .entry / 65536 % 256 ∷ (r .entry / 256 % 256 ∷ (r .entry % 256
-        ∷ (r .ticket / 65536 % 256 ∷ (r .ticket / 256 % 256 ∷ (r .ticket % 256
-        ∷ (r .exit / 65536 % 256 ∷ (r .exit / 256 % 256 ∷ (r .exit % 256 ∷ (r .next ∷ []))))))))))) ≡ rowBytes r ++ drop 11 s
+-- a row's eleven bytes, with its place and next as they are: each is a byte already
+abbrev pub fieldBytes : ℕ → Row → ℕ → List ℕ
+fieldBytes place r next =
+    place
+    ∷ (r .entry / 65536 % 256 ∷ (r .entry / 256 % 256 ∷ (r .entry % 256
+    ∷ (r .ticket / 65536 % 256 ∷ (r .ticket / 256 % 256 ∷ (r .ticket % 256
+    ∷ (r .exit / 65536 % 256 ∷ (r .exit / 256 % 256 ∷ (r .exit % 256
+    ∷ (next ∷ []))))))))))
+
+-- stored over the front of a slice
+pub put-row-is : (r : Row) (s : List ℕ) → r .place < 256 → r .next < 256 → 11 ≤ length s → sets s 0 (fieldBytes (r .place) r (r .next)) ≡ rowBytes r ++ drop 11 s
 put-row-is r s p n h =
     let a : r .place ≡ r .place % 256 = omega arith in
     let b : r .next ≡ r .next % 256 = omega arith in
-    ap (λ (x : ℕ). sets s 0 (x ∷ (r .entry / 65536 % 256 ∷ (r .entry / 256 % 256 ∷ (r .entry % 256
-        ∷ (r .ticket / 65536 % 256 ∷ (r .ticket / 256 % 256 ∷ (r .ticket % 256
-        ∷ (r .exit / 65536 % 256 ∷ (r .exit / 256 % 256 ∷ (r .exit % 256 ∷ (r .next ∷ [])))))))))))) a
-    ∙ ap (λ (x : ℕ). sets s 0 (r .place % 256 ∷ (r .entry / 65536 % 256 ∷ (r .entry / 256 % 256 ∷ (r .entry % 256
-        ∷ (r .ticket / 65536 % 256 ∷ (r .ticket / 256 % 256 ∷ (r .ticket % 256
-        ∷ (r .exit / 65536 % 256 ∷ (r .exit / 256 % 256 ∷ (r .exit % 256 ∷ (x ∷ [])))))))))))) b
-    ∙ sets-eq (rowBytes r) s 0 h
+    ap₂ (λ (x y : ℕ). sets s 0 (fieldBytes x r y)) a b ∙ sets-eq (rowBytes r) s 0 h
 
 -- a row put over the front of the part that begins with record j
 pub put-at-is : (r : Row) (j : ℕ) (was p : List ℕ) → 11 * (j + 1) ≤ length was

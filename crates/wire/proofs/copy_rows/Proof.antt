@@ -1,8 +1,7 @@
 -- `wire::copy_rows` meets its contract: after j turns the first j rows are written, and each turn puts one more over the next record.
 use Prim.Native.Nat.{_-_, _≤_}
-use mathlib.Core.Path.{_≡_, refl, _∙_}
+use mathlib.Core.Path.{_≡_}
 use native.Mathlib.Omega.{arith}
-use lib.ListN.{length}
 use Rattle.wire.specs.Written.{Copied, copied-start, copied-next}
 use borrow.Author.Needs.{needs}
 use Rattle.wire.proofs.copy_rows.Statement.{statement}

@@ -1,5 +1,4 @@
 -- `wire::put_at` meets its contract: the row is written over the front of the part that begins with record j, and the part is put back.
-use native.Mathlib.Omega.{arith}
 use Rattle.wire.specs.Written.{put-at-is}
 use borrow.Author.Needs.{needs}
 use Rattle.wire.proofs.put_at.Statement.{statement}

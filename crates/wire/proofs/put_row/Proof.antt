@@ -1,5 +1,4 @@
 -- `wire::put_row` meets its contract: eleven stores over the front of the slice, each a byte of the row, leave the row's bytes and then what was there.
-use mathlib.Core.Path.{_≡_}
 use native.Mathlib.Omega.{arith}
 use lib.ListN.{length-set}
 use Rattle.wire.specs.Written.{put-row-is}
