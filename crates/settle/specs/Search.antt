@@ -56,7 +56,8 @@ pub record Answer (n : ℕ) (nx : ℕ → ℕ → ℕ → ℕ) (goal : ℕ → B
   pub sought : r < 1280 → Sought n top src s nx goal r (distOf lab r)
   pub backs : r < 1280 → Backs n top src s nx (OnWay n top src s nx (befOf bef) r) (distOf lab) (befOf bef)
   pub rooted : r < 1280 → Rooted lab bef r
-  pub traced : r < 1280 → Trace n top src s nx r (distOf lab r)
+  pub begun : r < 1280 → getD bef src 0 ≡ 0
+  pub tied : r < 1280 → (v : ℕ) → v < n → getD lab v 0 < top → (v ≡ src → ⊥) → 0 < getD bef v 0
 
 pub record Going (n : ℕ) (nx : ℕ → ℕ → ℕ → ℕ) (goal : ℕ → Bool) (src s : ℕ) (lab op le bef : List ℕ) : Type 0 where
   pub inv : Inv n top src s nx (doneOf lab op) (distOf lab) (befOf bef)
@@ -270,7 +271,8 @@ module _ {n : ℕ} {nx : ℕ → ℕ → ℕ → ℕ} {goal : ℕ → Bool} {src
       sought = λ h. absurd (omega arith);
       backs = λ h. absurd (omega arith);
       rooted = λ h. absurd (omega arith);
-      traced = λ h. absurd (omega arith);
+      begun = λ h. absurd (omega arith);
+      tied = λ h. absurd (omega arith);
     }
 
     -- what is picked is a node
@@ -320,7 +322,8 @@ module _ {n : ℕ} {nx : ℕ → ℕ → ℕ → ℕ} {goal : ℕ → Bool} {src
             sought = λ _. stop n top src s nx src-in s-in mono later (G .inv) pick-of low-u (G .goals) g;
             backs = λ _. way n top src s nx B u k (inr refl);
             rooted = λ _. rooted-of B u k (inr refl);
-            traced = λ _. trace n top src s nx B u k (inr refl);
+            begun = λ _. G .begun;
+            tied = λ _. G .tied;
           }
 
       node : {v : ℕ} → v < n → In 0 n v
