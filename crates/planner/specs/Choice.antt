@@ -43,6 +43,17 @@ planOf D P lab [] = []
 planOf D P lab (w ∷ []) = stayOf P lab w (at lab w + at D (at P w)) ∷ []
 planOf D P lab (w ∷ (v ∷ path)) = stayOf P lab w (at lab v) ∷ planOf D P lab (v ∷ path)
 
+-- windows below m, entered within the day
+pub record OnDay (m : ℕ) (lab path : List ℕ) : Type 0 where
+  pub window : (i : ℕ) → i < length path → at path i < m
+  pub label : (i : ℕ) → i < length path → at lab (at path i) < 86401
+
+day-cons : {m v : ℕ} {lab path : List ℕ} → v < m → at lab v < 86401 → OnDay m lab path → OnDay m lab (v ∷ path)
+day-cons {m} {v} {lab} {path} h k g = record {
+  window = λ i. elim i [ zero ↦ λ x. h | suc j ↦ λ x. g .window j (omega arith) ];
+  label = λ i. elim i [ zero ↦ λ x. k | suc j ↦ λ x. g .label j (omega arith) ];
+}
+
 module _
     {C D F T H N : List ℕ} {n k : ℕ} {rows : List Row} {c : ℕ} {P S E I : List ℕ} {m : ℕ}
     (L : Lanes C D F T H N n k rows c P S E I m)
@@ -196,3 +207,13 @@ module _
                 goal = goal;
                 back = subst₂ (λ (x y : ℕ). Back Y rows start dest s (win r) (at lab r) (record { place = x; entry = at lab r; exit = at lab r + y } ∷ []) (planOf D P lab path)) q d (walked (sought .within) self t);
               }
+
+          -- each window of the trail is one, entered within the day
+          pub trail-good : {v : ℕ} {after path : List ℕ} → v < m → OnWay m 86401 src s (nextBy Y rows P S E) (befOf bef) r v → Trail bef v after path → OnDay m lab after → OnDay m lab path
+          trail-good {v} k o (root e) g = day-cons k (below-top k o) g
+          trail-good {v} k o (behind z t) g =
+              let ne : v ≡ src → ⊥ = λ q. omega (arith, A .begun h, ap (at bef) q) in
+              trail-good (backs .best v k o ne .within) (back o ne) t (day-cons k (below-top k o) g)
+
+          pub found-good : {path : List ℕ} → Trail bef r [] path → OnDay m lab path
+          found-good t = trail-good (sought .within) self t (record { window = λ i x. absurd (omega arith); label = λ i x. absurd (omega arith) })
