@@ -1,0 +1,26 @@
+use Prim.Native.Nat.{ℕ, _+_, _-_, _≤_, _<_}
+use mathlib.Core.Path.{_≡_, refl, sym, ap, subst, _∙_}
+use mathlib.Core.Logic.{⊎-elim}
+use mathlib.Core.Bool.{Bool, true, false}
+use native.Mathlib.Omega.{arith}
+use lib.ListN.{length, getD}
+use borrow.Author.Tests.{eq-eqb, eqb-true, not-true, not-false}
+use Rattle.laws.specs.Tests.{not-both}
+use Rattle.laws.specs.Lists.{at}
+use Rattle.bookfit.specs.Join.{IsLast, OneLast, LastBelow, Clash}
+use Rattle.bookfit.specs.Marks.{Seen, seen-start, seen-skip, seen-mark, clash-breaks}
+use borrow.Author.Needs.{needs}
+use Rattle.bookfit.proofs.last_met.Statement.{statement}
+use Rattle.bookfit.proofs.last_met.Tie as tie
+
+returns : tie.Need-returns
+returns c = (λ q. absurd (not-both q refl), λ t _. absurd (not-both t (not-true (c .before .args .marked) (c .if1 .taken))))
+
+last-among-requires : tie.Need-last-among-requires
+last-among-requires c κs = search needs
+
+returns-2 : tie.Need-returns-2
+returns-2 c = (c .last-among .ensures .0, λ _ b. c .last-among .ensures .1 b)
+
+pub last-met-spec : {M : Type 1} → statement M
+last-met-spec = tie.close (tie.spec returns last-among-requires returns-2)
