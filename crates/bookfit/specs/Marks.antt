@@ -12,12 +12,10 @@ use lib.Dec.{eqb}
 use borrow.Author.Tests.{eq-eqb, eqb-true}
 use Rattle.laws.specs.Order.{lt-or-ge, eq-or-ne}
 use Rattle.laws.specs.Tests.{not-both}
+use Rattle.bookfit.specs.Each.{below-next}
 use Rattle.bookfit.specs.Search.{Split}
 use Rattle.flat.specs.Flat.{placeOf, ticketOf, keyOf}
 use Rattle.bookfit.specs.Join.{nextKey, IsLast, Spot, Found, Joined, OneLast, LastBelow, Clash}
-
-below-next : (P : ℕ → Type 0) (c : ℕ) → ((i : ℕ) → i < c → P i) → P c → (i : ℕ) → i < c + 1 → P i
-below-next P c f p i h = ⊎-elim (λ (k : i < c). f i k) (λ (k : c ≤ i). subst P (omega arith) p) (lt-or-ge i c)
 
 -- a search's answer
 pub spot-first : (K : ℕ → ℕ) (n k j : ℕ) → Split K k 0 n j → j ≡ 0 → Spot K n k n
@@ -101,6 +99,9 @@ goes-by key next b e f h = flat b f (e ∙ eq-eqb next (placeOf key) h)
     flat : (b : Bool) → not b ≡ true → b ≡ true → ⊥
     flat true f g = not-both f refl
     flat false f g = not-both g refl
+
+pub goes-no : (key next : ℕ) (b : Bool) → b ≡ eqb next (placeOf key) → b ≡ false → IsLast key next → ⊥
+goes-no key next b e f h = not-both (e ∙ eq-eqb next (placeOf key) h) f
 
 pub last-by : (key next : ℕ) (b : Bool) → b ≡ eqb next (placeOf key) → not b ≡ false → IsLast key next
 last-by key next b e f = eqb-true next (placeOf key) (sym e ∙ flat b f)

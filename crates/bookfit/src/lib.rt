@@ -6,9 +6,12 @@ ghost use Prim.Native.Nat.{ℕ, _+_, _*_, _≤_, _<_, _/_, _%_};
 ghost use lib.ListN.{length, getD};
 ghost use lib.Dec.{eqb};
 ghost use Rattle.laws.specs.Lists.{at};
-ghost use Rattle.flat.specs.Flat.{placeOf, entryOf, ticketOf, rowOf, Packed, KeysRise};
+ghost use Rattle.rules.specs.Map.{linked};
+ghost use Rattle.flat.specs.Flat.{linksIn, Chained, placeOf, entryOf, ticketOf, rowOf, Packed, KeysRise, Grouped};
 ghost use Rattle.bookfit.specs.Search.{Split};
 ghost use Rattle.bookfit.specs.Join.{nextKey, IsLast, Spot, Joined, OneLast, LastBelow};
+ghost use Rattle.bookfit.specs.Rows.{TicketFits, TicketsFit, RowFits, RowsFit};
+ghost use Rattle.bookfit.specs.Against.{Crossed, Opposed, Unopposed};
 
 // ---- a key among the keys of the book
 
@@ -179,6 +182,248 @@ pub fn one_last_row<'a>(key: &'a [u64; 1024], next: &'a [u8; 1024], count: usize
                 return false;
             }
             seen[h] = true;
+        }
+        i += 1;
+    }
+    true
+}
+
+// ---- each row by itself
+
+// keys rise strictly: where neighbours do, all do
+pub fn rising(key: &[u64; 1024], count: usize) -> bool
+    requires { ⌜ count ≤ 1024 ⌝ }
+    ensures { λ r. ⌜ (r ≡ true → KeysRise (now (key .entry)) count) × (KeysRise (now (key .entry)) count → r ≡ true) ⌝ }
+{
+    let mut i = 1;
+    while i < count {
+        if key[i - 1] >= key[i] {
+            return false;
+        }
+        i += 1;
+    }
+    true
+}
+
+// the ticket was issued: at least 1 and below the next number
+fn ticket_fits(key: u64, next_ticket: u32) -> bool
+    ensures { λ r. ⌜ (r ≡ true → TicketFits key «next_ticket») × (TicketFits key «next_ticket» → r ≡ true) ⌝ }
+{
+    let t = key % 16777216;
+    if t == 0 {
+        return false;
+    }
+    t < next_ticket as u64
+}
+
+// each row's ticket was issued
+pub fn tickets_fit(key: &[u64; 1024], count: usize, next_ticket: u32) -> bool
+    requires { ⌜ count ≤ 1024 ⌝ }
+    ensures { λ r. ⌜ (r ≡ true → TicketsFit (at (now (key .entry))) count «next_ticket») × (TicketsFit (at (now (key .entry))) count «next_ticket» → r ≡ true) ⌝ }
+{
+    let mut i = 0;
+    while i < count {
+        if !ticket_fits(key[i], next_ticket) {
+            return false;
+        }
+        i += 1;
+    }
+    true
+}
+
+// a link goes from p to q: p's links are looked through
+fn linked_by<'a>(
+    p: usize,
+    q: u8,
+    k: usize,
+    from: &'a [u8; 1024],
+    to: &'a [u8; 1024],
+    head: &'a [u16; 256],
+    chain: &'a [u16; 1024],
+) -> bool
+    requires { ⌜ p < 256 ⌝ }
+    requires { ⌜ k ≤ 1024 ⌝ }
+    requires { ⌜ Chained (now from) k (now head) (now chain) ⌝ }
+    ensures { λ r. ⌜ r ≡ linked (linksIn (now (from .entry)) (now (to .entry)) k) p q ⌝ }
+{
+    let mut j = head[p] as usize;
+    while j > 0 {
+        if to[j - 1] == q {
+            return true;
+        }
+        j = chain[j - 1] as usize;
+    }
+    false
+}
+
+// the first second at which a row of duration d may end
+fn least_exit(key: u64, d: u32) -> u64
+    ensures { λ r. ⌜ r ≡ entryOf key + d ⌝ }
+{
+    key / 16777216 % 16777216 + d as u64
+}
+
+// a row keeps to the map, to the day and to its place's duration, and goes on along a link
+fn row_fits<'a>(
+    n: usize,
+    k: usize,
+    dur: &'a [u32; 256],
+    from: &'a [u8; 1024],
+    to: &'a [u8; 1024],
+    head: &'a [u16; 256],
+    chain: &'a [u16; 1024],
+    key: u64,
+    exit: u32,
+    next: u8,
+) -> bool
+    requires { ⌜ k ≤ 1024 ⌝ }
+    requires { ⌜ Chained (now from) k (now head) (now chain) ⌝ }
+    requires { ⌜ key < 72057594037927936 ⌝ }
+    ensures { λ r. ⌜ (r ≡ true → RowFits n (at (now (dur .entry))) (linked (linksIn (now (from .entry)) (now (to .entry)) k)) (rowOf key exit next))
+        × (RowFits n (at (now (dur .entry))) (linked (linksIn (now (from .entry)) (now (to .entry)) k)) (rowOf key exit next) → r ≡ true) ⌝ }
+{
+    let p = (key / 281474976710656) as usize;
+    let q = next as usize;
+    let x = exit as u64;
+    let least = least_exit(key, dur[p]);
+    if p >= n {
+        return false;
+    }
+    if x > 86400 {
+        return false;
+    }
+    if x < least {
+        return false;
+    }
+    if p == q {
+        return x == least;
+    }
+    linked_by(p, next, k, from, to, head, chain)
+}
+
+// each row fits
+pub fn rows_fit<'a>(
+    n: usize,
+    k: usize,
+    dur: &'a [u32; 256],
+    from: &'a [u8; 1024],
+    to: &'a [u8; 1024],
+    head: &'a [u16; 256],
+    chain: &'a [u16; 1024],
+    key: &'a [u64; 1024],
+    exit: &'a [u32; 1024],
+    next: &'a [u8; 1024],
+    count: usize,
+) -> bool
+    requires { ⌜ count ≤ 1024 ⌝ }
+    requires { ⌜ k ≤ 1024 ⌝ }
+    requires { ⌜ Chained (now from) k (now head) (now chain) ⌝ }
+    requires { ⌜ ((i : ℕ) → at (now key) i < 72057594037927936) ⌝ }
+    ensures { λ r. ⌜ (r ≡ true → RowsFit n (at (now (dur .entry))) (linked (linksIn (now (from .entry)) (now (to .entry)) k)) (at (now (key .entry))) (at (now (exit .entry))) (at (now (next .entry))) count)
+        × (RowsFit n (at (now (dur .entry))) (linked (linksIn (now (from .entry)) (now (to .entry)) k)) (at (now (key .entry))) (at (now (exit .entry))) (at (now (next .entry))) count → r ≡ true) ⌝ }
+{
+    let mut i = 0;
+    while i < count {
+        if !row_fits(n, k, dur, from, to, head, chain, key[i], exit[i], next[i]) {
+            return false;
+        }
+        i += 1;
+    }
+    true
+}
+
+// ---- the exchange rule
+
+// a row with this exit and next place goes on to p at x
+fn goes_to(exit: u32, next: u8, p: u64, x: u32) -> bool
+    ensures { λ r. ⌜ (r ≡ true → (next ≡ p) × (exit ≡ x)) × ((next ≡ p) × (exit ≡ x) → r ≡ true) ⌝ }
+{
+    let q = next as u64;
+    if exit != x {
+        return false;
+    }
+    q == p
+}
+
+// one of the rows a .. b goes on to p at x
+fn crossed<'a>(
+    exit: &'a [u32; 1024],
+    next: &'a [u8; 1024],
+    a: usize,
+    b: usize,
+    p: u64,
+    x: u32,
+) -> bool
+    requires { ⌜ b ≤ 1024 ⌝ }
+    ensures { λ r. ⌜ (r ≡ true → Crossed (at (now (exit .entry))) (at (now (next .entry))) a b p x) × (Crossed (at (now (exit .entry))) (at (now (next .entry))) a b p x → r ≡ true) ⌝ }
+{
+    let mut j = a;
+    while j < b {
+        if goes_to(exit[j], next[j], p, x) {
+            return true;
+        }
+        j += 1;
+    }
+    false
+}
+
+fn place_index(p: u8) -> usize
+    ensures { λ r. ⌜ (r ≡ p) × (r < 256) ⌝ }
+{
+    p as usize
+}
+
+fn row_index(i: u16) -> usize
+    ensures { λ r. ⌜ r ≡ i ⌝ }
+{
+    i as usize
+}
+
+// row i goes on, and a row of its next place goes against it
+fn opposed<'a>(
+    n: usize,
+    key: &'a [u64; 1024],
+    exit: &'a [u32; 1024],
+    next: &'a [u8; 1024],
+    count: usize,
+    rows: &'a [u16; 257],
+    i: usize,
+) -> bool
+    requires { ⌜ count ≤ 1024 ⌝ }
+    requires { ⌜ i < count ⌝ }
+    requires { ⌜ Grouped (λ j. placeOf (at (now key) j)) (now rows) n count ⌝ }
+    requires { ⌜ ((IsLast (at (now key) i) (at (now next) i) → ⊥) → at (now next) i < n) ⌝ }
+    ensures { λ r. ⌜ (r ≡ true → Opposed (at (now (key .entry))) (at (now (exit .entry))) (at (now (next .entry))) count i) × (Opposed (at (now (key .entry))) (at (now (exit .entry))) (at (now (next .entry))) count i → r ≡ true) ⌝ }
+{
+    let k = key[i];
+    let q = next[i];
+    if is_last(k, q) {
+        return false;
+    }
+    let h = place_index(q);
+    let a = row_index(rows[h]);
+    let b = row_index(rows[h + 1]);
+    crossed(exit, next, a, b, k / 281474976710656, exit[i])
+}
+
+// no row goes against another
+pub fn exchange_kept<'a>(
+    n: usize,
+    key: &'a [u64; 1024],
+    exit: &'a [u32; 1024],
+    next: &'a [u8; 1024],
+    count: usize,
+    rows: &'a [u16; 257],
+) -> bool
+    requires { ⌜ count ≤ 1024 ⌝ }
+    requires { ⌜ Grouped (λ j. placeOf (at (now key) j)) (now rows) n count ⌝ }
+    requires { ⌜ ((i : ℕ) → i < count → (IsLast (at (now key) i) (at (now next) i) → ⊥) → at (now next) i < n) ⌝ }
+    ensures { λ r. ⌜ (r ≡ true → Unopposed (at (now (key .entry))) (at (now (exit .entry))) (at (now (next .entry))) count) × (Unopposed (at (now (key .entry))) (at (now (exit .entry))) (at (now (next .entry))) count → r ≡ true) ⌝ }
+{
+    let mut i = 0;
+    while i < count {
+        if opposed(n, key, exit, next, count, rows, i) {
+            return false;
         }
         i += 1;
     }
