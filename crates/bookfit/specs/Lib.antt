@@ -5,3 +5,6 @@ pub mod Marks
 pub mod Rows
 pub mod Groups
 pub mod Against
+pub mod Keys
+pub mod Bridge
+pub mod Formed
