@@ -1,2 +1,4 @@
 pub mod Flat
 pub mod Laws
+pub mod Crossings
+pub mod Links

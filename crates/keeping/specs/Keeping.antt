@@ -1,0 +1,178 @@
+-- A booking and a cancellation leave a well-formed book well formed. The new rows have a ticket of their own, so that the other tickets'
+-- rows are what they were; load and exchange hold by what the plan was permitted for. A cancellation only takes a whole ticket's rows away.
+use mathlib.Core.Path.{_≡_, sym, ap, subst, _∙_}
+use mathlib.Core.Logic.{_⊎_, inl, inr, ⊎-elim}
+use mathlib.Core.Bool.{true, false}
+use mathlib.Core.List.{List, [], List·Memᴰ, List·Memᴰ·not-nil}
+use Prim.Native.Nat.{ℕ, _+_, _<_, _≤_}
+use native.Mathlib.Omega.{arith}
+use lib.ListN.{length}
+use lib.Dec.{eqb}
+use borrow.Author.Tests.{eqb-false, ne-eqb, not-true}
+use Rattle.laws.specs.Order.{eq-or-ne}
+use Rattle.laws.specs.Tests.{true-or-false, not-both}
+use Rattle.laws.specs.Lists.{mem-index, index-mem}
+use Rattle.rules.specs.declared.Row.{Row}
+use Rattle.rules.specs.Limits.{rowLimit, ticketLimit}
+use Rattle.rules.specs.Map.{Yard}
+use Rattle.rules.specs.Rows.{Key, noRow, rowAt, load, crosses, keep, insertAll}
+use Rattle.rules.specs.Plan.{Stay, Permitted, runRows}
+use Rattle.rules.specs.Book.{Ranges, Whole, WellFormed, otherTicket}
+use Rattle.lanes.specs.Yards.{YardRules}
+use Rattle.keeping.specs.Chains.{rising-none}
+use Rattle.keeping.specs.Changes.{keep-mem, mem-keep, keep-rising, keep-le, all-length, mem-all, all-old, all-new, AllNew, all-rising}
+use Rattle.keeping.specs.Loads.{load-all, load-keep, crosses-row, row-crosses, crosses-all, crosses-keep}
+use Rattle.keeping.specs.Runs.{run-length, run-ticket, run-load, run-clear, run-tested, run-apart, run-meets-none}
+
+pub empty-formed : (Y : Yard) → WellFormed Y [] 1
+unfolding load
+empty-formed Y = record {
+  few = omega arith;
+  rising = rising-none;
+  ticket-from = omega arith;
+  ticket-to = omega arith;
+  ranges = λ i h. absurd (omega arith);
+  whole = λ r m. absurd (List·Memᴰ·not-nil m);
+  room = λ p t h. omega arith;
+  exchange = λ r m. absurd (List·Memᴰ·not-nil m);
+}
+
+-- the ranges of a row that stands in a book
+pub row-ranges : {Y : Yard} {rows : List Row} {t : ℕ} → WellFormed Y rows t → (r : Row) → List·Memᴰ r rows → Ranges Y t r
+row-ranges {Y} {rows} {t} W r m = let i = mem-index noRow m in subst (Ranges Y t) (i .2) (W .ranges (i .0) (i .1))
+
+-- ---- booking
+
+module _ (t : ℕ) (plan : List Stay) (rows : List Row) where
+  pub book-rows : (y : Row) → List·Memᴰ y (insertAll (runRows t plan) rows) → List·Memᴰ y rows ⊎ List·Memᴰ y (runRows t plan)
+  book-rows y m = ⊎-elim (λ n. inr n) (λ n. inl n) (mem-all (runRows t plan) y rows m)
+
+  pub rows-book : (y : Row) → List·Memᴰ y rows ⊎ List·Memᴰ y (runRows t plan) → List·Memᴰ y (insertAll (runRows t plan) rows)
+  rows-book y m = ⊎-elim (λ n. all-old (runRows t plan) y rows n) (λ n. all-new (runRows t plan) y rows n) m
+
+module _ {Y : Yard} (rules : YardRules Y) {rows : List Row} {t start dest s : ℕ} {plan : List Stay} (W : WellFormed Y rows t) (P : Permitted Y rows start dest s plan) where
+  abbrev new : List Row
+  new = runRows t plan
+
+  abbrev book : List Row
+  book = insertAll new rows
+
+  -- no booked row has the next ticket
+  other : (r : Row) → List·Memᴰ r rows → r .ticket ≡ t → ⊥
+  other r m e = omega (arith, row-ranges W r m .ticket-to)
+
+  new-keys : AllNew new rows
+  new-keys = record {
+    fresh = λ x m y d e. other y d (ap (λ (k : Key). k .ticket) e ∙ run-ticket t plan x m);
+    apart = run-apart t rules plan (P .run);
+  }
+
+  new-ranges : (r : Row) → List·Memᴰ r new → Ranges Y (t + 1) r
+  new-ranges r m =
+      let o = run-tested t rules plan (P .run) r m in
+      let e = run-ticket t plan r m in
+      record {
+        place = o .on-map;
+        next = ⊎-elim (λ (e : r .next ≡ r .place). rw e (o .on-map)) (λ (ne : r .next ≡ r .place → ⊥). rules .to-on (r .place) (r .next) (o .linked ne)) (eq-or-ne (r .next) (r .place));
+        entry = omega (arith, o .lasts, o .in-day);
+        exit = o .in-day;
+        ticket-from = omega (arith, W .ticket-from);
+        ticket-to = omega arith;
+      }
+
+  old-ranges : (r : Row) → List·Memᴰ r rows → Ranges Y (t + 1) r
+  old-ranges r m =
+      let o = row-ranges W r m in
+      record { place = o .place; next = o .next; entry = o .entry; exit = o .exit; ticket-from = o .ticket-from; ticket-to = omega (arith, o .ticket-to) }
+
+  new-whole : Whole Y book t
+  new-whole = record {
+    plan = plan;
+    is-plan = P .run;
+    booked = λ r m. all-new new r rows m;
+    only = λ r m e. ⊎-elim (λ (d : List·Memᴰ r rows). absurd (other r d e)) (λ (d : List·Memᴰ r new). d) (book-rows t plan rows r m);
+  }
+
+  old-whole : (r : Row) → List·Memᴰ r rows → Whole Y book (r .ticket)
+  old-whole r m =
+      let o = W .whole r m in
+      record {
+        plan = o .plan;
+        is-plan = o .is-plan;
+        booked = λ x d. all-old new x rows (o .booked x d);
+        only = λ x d e. ⊎-elim (λ (n : List·Memᴰ x rows). o .only x n e) (λ (n : List·Memᴰ x new). absurd (other r m (sym e ∙ run-ticket t plan x n))) (book-rows t plan rows x d);
+      }
+
+  -- a new row meets no booked one, and no booked one a new one
+  new-clear : (r : Row) → List·Memᴰ r new → (r .next ≡ r .place → ⊥) → crosses rows (r .next) (r .place) (r .exit) ≡ false
+  new-clear = run-clear t rows plan (P .exchange)
+
+  old-clear : (r : Row) → List·Memᴰ r rows → (r .next ≡ r .place → ⊥) → crosses new (r .next) (r .place) (r .exit) ≡ false
+  old-clear r m ne =
+      ⊎-elim
+      (λ (e : crosses new (r .next) (r .place) (r .exit) ≡ true).
+      let c = crosses-row (r .next) (r .place) (r .exit) new e in
+      let x = c .row in
+      let clear = new-clear x (c .booked) (λ e. ne (sym (c .from) ∙ sym e ∙ c .to)) in
+      absurd (not-both (row-crosses (x .next) (x .place) (x .exit) m (sym (c .to)) (sym (c .from)) (sym (c .at))) clear))
+      (λ (e : crosses new (r .next) (r .place) (r .exit) ≡ false). e)
+      (true-or-false (crosses new (r .next) (r .place) (r .exit)))
+
+  no-crossing : (p q e : ℕ) → crosses new p q e ≡ false → crosses rows p q e ≡ false → crosses book p q e ≡ false
+  no-crossing p q e a b = crosses-all p q e new rows ∙ rw (a, b)
+
+  formed : t < ticketLimit → length rows + length plan ≤ rowLimit → WellFormed Y book (t + 1)
+  formed before fits = record {
+    few = omega (arith, all-length new rows, run-length t plan);
+    rising = all-rising new rows (W .rising) new-keys;
+    ticket-from = omega arith;
+    ticket-to = omega arith;
+    ranges = λ i h. ⊎-elim (λ (m : List·Memᴰ (rowAt book i) rows). old-ranges (rowAt book i) m) (λ (m : List·Memᴰ (rowAt book i) new). new-ranges (rowAt book i) m)
+        (book-rows t plan rows (rowAt book i) (index-mem noRow book i h));
+    whole = λ r m. ⊎-elim (λ (d : List·Memᴰ r rows). old-whole r d) (λ (d : List·Memᴰ r new). subst (Whole Y book) (sym (run-ticket t plan r d)) new-whole) (book-rows t plan rows r m);
+    room = λ p x h. omega (arith, load-all p x new rows, run-load t plan p x, P .room p x h);
+    exchange = λ r m ne. ⊎-elim
+        (λ (d : List·Memᴰ r rows). no-crossing (r .next) (r .place) (r .exit) (old-clear r d ne) (W .exchange r d ne))
+        (λ (d : List·Memᴰ r new). no-crossing (r .next) (r .place) (r .exit) (run-meets-none t rules plan (P .run) r d ne) (new-clear r d ne))
+        (book-rows t plan rows r m);
+  }
+
+pub book-keeps : {Y : Yard} → YardRules Y → {rows : List Row} {t start dest s : ℕ} {plan : List Stay} → WellFormed Y rows t → t < 1000000
+    → Permitted Y rows start dest s plan → length rows + length plan ≤ 1024 → WellFormed Y (insertAll (runRows t plan) rows) (t + 1)
+book-keeps rules W before P fits = formed rules W P before fits
+
+-- ---- cancelling
+
+module _ (k : ℕ) (rows : List Row) where
+  pub cancel-rows : (y : Row) → List·Memᴰ y (keep (otherTicket k) rows) → List·Memᴰ y rows × (y .ticket ≡ k → ⊥)
+  cancel-rows y m = let r = mem-keep (otherTicket k) y rows m in (r .0, eqb-false (y .ticket) k (not-true (eqb (y .ticket) k) (r .1)))
+
+  pub rows-cancel : (y : Row) → List·Memᴰ y rows × (y .ticket ≡ k → ⊥) → List·Memᴰ y (keep (otherTicket k) rows)
+  rows-cancel y m = keep-mem (otherTicket k) (rw (ne-eqb (y .ticket) k (m .1))) (m .0)
+
+module _ {Y : Yard} {rows : List Row} {t : ℕ} (k : ℕ) (W : WellFormed Y rows t) where
+  abbrev rest : List Row
+  rest = keep (otherTicket k) rows
+
+  rest-whole : (r : Row) → List·Memᴰ r rest → Whole Y rest (r .ticket)
+  rest-whole r m =
+      let d = cancel-rows k rows r m in
+      let o = W .whole r (d .0) in
+      record {
+        plan = o .plan;
+        is-plan = o .is-plan;
+        booked = λ x n. rows-cancel k rows x (o .booked x n, λ e. d .1 (sym (run-ticket (r .ticket) (o .plan) x n) ∙ e));
+        only = λ x n e. o .only x (cancel-rows k rows x n .0) e;
+      }
+
+  pub cancel-keeps : WellFormed Y (keep (otherTicket k) rows) t
+  cancel-keeps = record {
+    few = omega (arith, keep-le (otherTicket k) rows, W .few);
+    rising = keep-rising (otherTicket k) rows (W .rising);
+    ticket-from = W .ticket-from;
+    ticket-to = W .ticket-to;
+    ranges = λ i h. row-ranges W (rowAt rest i) (cancel-rows k rows (rowAt rest i) (index-mem noRow rest i h) .0);
+    whole = rest-whole;
+    room = λ p x h. omega (arith, load-keep p x (otherTicket k) rows, W .room p x h);
+    exchange = λ r m ne. crosses-keep (r .next) (r .place) (r .exit) (otherTicket k) rows (W .exchange r (cancel-rows k rows r m .0) ne);
+  }

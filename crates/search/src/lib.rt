@@ -1,0 +1,308 @@
+// The search for the earliest entry into the destination's windows, over lent arrays.
+ghost use mathlib.Core.Path.{_≡_};
+ghost use mathlib.Core.Bool.{Bool, true, false};
+ghost use Prim.Native.Nat.{ℕ, _+_, _-_, _*_, _≤_, _<_, min, max};
+ghost use lib.ListN.{length};
+ghost use Rattle.laws.specs.Lists.{at};
+ghost use Rattle.rules.specs.Rows.{crosses};
+ghost use Rattle.flat.specs.Flat.{rowsIn, placeOf};
+ghost use Rattle.settle.specs.Blocks.{Blocks};
+ghost use Rattle.search.specs.Entries.{FirstClear};
+ghost use Rattle.search.specs.Offers.{Row1, Labels, Tried, OfferedTo, OpenFrom};
+ghost use Rattle.search.specs.Relax.{Ground, Relaxed};
+
+fn wide(x: u8) -> usize
+    ensures { λ r. ⌜ (r ≡ x) × (r < 256) ⌝ }
+{
+    x as usize
+}
+
+fn broad(x: u16) -> usize
+    ensures { λ r. ⌜ (r ≡ x) × (r < 65536) ⌝ }
+{
+    x as usize
+}
+
+fn later(a: u32, b: u32) -> u32
+    ensures { λ r. ⌜ r ≡ max a b ⌝ }
+{
+    if a < b {
+        return b;
+    }
+    a
+}
+
+fn sooner(a: u32, b: u32) -> u32
+    ensures { λ r. ⌜ r ≡ min a b ⌝ }
+{
+    if a < b {
+        return a;
+    }
+    b
+}
+
+// How many of the first n rows exit at t: with none there is no crossing to look for.
+fn exits_at(exit: &[u32; 1024], n: usize, t: u32) -> usize
+    requires { ⌜ n ≤ 1024 ⌝ }
+    ensures { λ r. ⌜ (r ≡ 0 → (i : ℕ) → i < n → at (now (exit .entry)) i ≡ t → ⊥) ⌝ }
+{
+    let mut c: usize = 0;
+    let mut i: usize = 0;
+    while i < n {
+        if exit[i] == t {
+            c += 1;
+        }
+        i += 1;
+    }
+    c
+}
+
+// A row of this key and next place goes from q to p.
+fn goes(key: u64, next: u8, q: u8, p: u8) -> bool
+    ensures { λ r. ⌜ (r ≡ true → (placeOf key ≡ q) × (next ≡ p)) × ((placeOf key ≡ q) × (next ≡ p) → r ≡ true) ⌝ }
+{
+    if next != p {
+        return false;
+    }
+    key / 281474976710656 == q as u64
+}
+
+// Some row goes from q to p at t: a look through all rows.
+fn crossed(
+    key: &[u64; 1024],
+    exit: &[u32; 1024],
+    next: &[u8; 1024],
+    n: usize,
+    q: u8,
+    p: u8,
+    t: u32,
+) -> bool
+    requires { ⌜ n ≤ 1024 ⌝ }
+    ensures { λ r. ⌜ r ≡ crosses (rowsIn (now (key .entry)) (now (exit .entry)) (now (next .entry)) n) q p t ⌝ }
+{
+    let mut i: usize = 0;
+    while i < n {
+        if exit[i] == t {
+            if goes(key[i], next[i], q, p) {
+                return true;
+            }
+        }
+        i += 1;
+    }
+    false
+}
+
+// The crossing from p to q at t is barred: a booked run goes from q to p then.
+pub fn barred(
+    key: &[u64; 1024],
+    exit: &[u32; 1024],
+    next: &[u8; 1024],
+    n: usize,
+    q: u8,
+    p: u8,
+    t: u32,
+) -> bool
+    requires { ⌜ n ≤ 1024 ⌝ }
+    ensures { λ r. ⌜ r ≡ crosses (rowsIn (now (key .entry)) (now (exit .entry)) (now (next .entry)) n) q p t ⌝ }
+{
+    if exits_at(exit, n, t) == 0 {
+        return false;
+    }
+    crossed(key, exit, next, n, q, p, t)
+}
+
+// The least second of lo to hi at which the crossing is not barred, 86,401 where there is none.
+fn first_entry(
+    key: &[u64; 1024],
+    exit: &[u32; 1024],
+    next: &[u8; 1024],
+    n: usize,
+    q: u8,
+    p: u8,
+    lo: u32,
+    hi: u32,
+) -> u32
+    requires { ⌜ n ≤ 1024 ⌝ }
+    requires { ⌜ hi ≤ 86400 ⌝ }
+    ensures { λ r. ⌜ FirstClear (rowsIn (now (key .entry)) (now (exit .entry)) (now (next .entry)) n) q p lo hi r ⌝ }
+{
+    let mut t = lo;
+    'window: loop {
+        if t > hi {
+            break 'window 86401;
+        }
+        if !barred(key, exit, next, n, q, p, t) {
+            break t;
+        }
+        t += 1;
+    }
+}
+
+// Window v, to be entered from lo to hi, offered the way through w.
+fn try_window(
+    key: &[u64; 1024],
+    exit: &[u32; 1024],
+    next: &[u8; 1024],
+    n: usize,
+    q: u8,
+    p: u8,
+    lo: u32,
+    hi: u32,
+    v: usize,
+    w: usize,
+    label: &mut [u32; 1280],
+    live: &mut [u32; 1280],
+    least: &mut [u32; 40],
+    before: &mut [u16; 1280],
+)
+    requires { ⌜ n ≤ 1024 ⌝ }
+    requires { ⌜ hi ≤ 86400 ⌝ }
+    requires { ⌜ (v < 1280) × (w < 1280) ⌝ }
+    requires { ⌜ Labels (now label) (now live) (now before) ⌝ }
+    requires { ⌜ Blocks (now live) (now least) ⌝ }
+    ensures { λ _. ⌜ Tried (rowsIn (now (key .entry)) (now (exit .entry)) (now (next .entry)) n) q p lo hi v w (now (label .entry)) (now (live .entry)) (now (before .entry)) (now (label .exit)) (now (live .exit)) (now (before .exit)) × (Labels (now (label .exit)) (now (live .exit)) (now (before .exit)) × Blocks (now (live .exit)) (now (least .exit))) ⌝ }
+{
+    if lo < label[v] {
+        let t = first_entry(key, exit, next, n, q, p, lo, hi);
+        settle::offer(label, live, least, before, v, w, t);
+    }
+}
+
+// The first of windows a .. b that ends at x or later, b where there is none.
+fn first_open(end: &[u32; 1280], a: usize, b: usize, x: u32) -> usize
+    requires { ⌜ (a ≤ b) × (b ≤ 1280) ⌝ }
+    requires { ⌜ ((i j : ℕ) → a ≤ i → i ≤ j → j < b → at (now end) i ≤ at (now end) j) ⌝ }
+    ensures { λ r. ⌜ OpenFrom (now (end .entry)) a b x r r ⌝ }
+{
+    let mut lo = a;
+    let mut hi = b;
+    while lo < hi {
+        let mid = lo + (hi - lo) / 2;
+        if end[mid] < x {
+            lo = mid + 1;
+        } else {
+            hi = mid;
+        }
+    }
+    lo
+}
+
+// Windows a .. b of place q, of duration d, offered the way through w, which p may be left for from `soonest` to `leave`.
+fn relax_place(
+    start: &[u32; 1280],
+    end: &[u32; 1280],
+    key: &[u64; 1024],
+    exit: &[u32; 1024],
+    next: &[u8; 1024],
+    n: usize,
+    a: usize,
+    b: usize,
+    q: u8,
+    p: u8,
+    d: u32,
+    soonest: u32,
+    leave: u32,
+    w: usize,
+    label: &mut [u32; 1280],
+    live: &mut [u32; 1280],
+    least: &mut [u32; 40],
+    before: &mut [u16; 1280],
+)
+    requires { ⌜ n ≤ 1024 ⌝ }
+    requires { ⌜ (a ≤ b) × (b ≤ 1280) × (w < 1280) ⌝ }
+    requires { ⌜ (d ≤ 3600) × (soonest ≤ 90000) × (leave ≤ 86400) ⌝ }
+    requires { ⌜ Row1 (now start) (now end) a b d ⌝ }
+    requires { ⌜ Labels (now label) (now live) (now before) ⌝ }
+    requires { ⌜ Blocks (now live) (now least) ⌝ }
+    ensures { λ _. ⌜ OfferedTo (rowsIn (now (key .entry)) (now (exit .entry)) (now (next .entry)) n) q p soonest leave d (now (start .entry)) (now (end .entry)) a b w (now (label .entry)) (now (live .entry)) (now (before .entry)) b (now (label .exit)) (now (live .exit)) (now (before .exit)) × (Labels (now (label .exit)) (now (live .exit)) (now (before .exit)) × Blocks (now (live .exit)) (now (least .exit))) ⌝ }
+{
+    let mut v = first_open(end, a, b, soonest + d);
+    while v < b {
+        let from = start[v];
+        if from > leave {
+            return;
+        }
+        let last = end[v] - d;
+        let lo = later(soonest, from);
+        let hi = sooner(leave, last);
+        try_window(key, exit, next, n, q, p, lo, hi, v, w, label, live, least, before);
+        v += 1;
+    }
+}
+
+// The windows of place q offered the way through w.
+fn relax_link(
+    dur: &[u32; 256],
+    first: &[u16; 257],
+    start: &[u32; 1280],
+    end: &[u32; 1280],
+    key: &[u64; 1024],
+    exit: &[u32; 1024],
+    next: &[u8; 1024],
+    n: usize,
+    q: u8,
+    p: u8,
+    soonest: u32,
+    leave: u32,
+    w: usize,
+    label: &mut [u32; 1280],
+    live: &mut [u32; 1280],
+    least: &mut [u32; 40],
+    before: &mut [u16; 1280],
+)
+    requires { ⌜ (n ≤ 1024) × (w < 1280) × (soonest ≤ 90000) × (leave ≤ 86400) ⌝ }
+    requires { ⌜ (at (now first) q ≤ at (now first) (q + 1)) × (at (now first) (q + 1) ≤ 1280) × (at (now dur) q ≤ 3600) ⌝ }
+    requires { ⌜ Row1 (now start) (now end) (at (now first) q) (at (now first) (q + 1)) (at (now dur) q) ⌝ }
+    requires { ⌜ Labels (now label) (now live) (now before) ⌝ }
+    requires { ⌜ Blocks (now live) (now least) ⌝ }
+    ensures { λ _. ⌜ OfferedTo (rowsIn (now (key .entry)) (now (exit .entry)) (now (next .entry)) n) q p soonest leave (at (now (dur .entry)) q) (now (start .entry)) (now (end .entry)) (at (now (first .entry)) q) (at (now (first .entry)) (q + 1)) w (now (label .entry)) (now (live .entry)) (now (before .entry)) (at (now (first .entry)) (q + 1)) (now (label .exit)) (now (live .exit)) (now (before .exit)) × (Labels (now (label .exit)) (now (live .exit)) (now (before .exit)) × Blocks (now (live .exit)) (now (least .exit))) ⌝ }
+{
+    let i = q as usize;
+    let a = first[i] as usize;
+    let b = first[i + 1] as usize;
+    let d = dur[i];
+    relax_place(start, end, key, exit, next, n, a, b, q, p, d, soonest, leave, w, label, live, least, before);
+}
+
+// The way through window w of place p offered to every window that a link of p leads to.
+fn relax(
+    places: usize,
+    links: usize,
+    windows: usize,
+    dur: &[u32; 256],
+    from: &[u8; 1024],
+    to: &[u8; 1024],
+    head: &[u16; 256],
+    chain: &[u16; 1024],
+    place: &[u8; 1280],
+    start: &[u32; 1280],
+    end: &[u32; 1280],
+    first: &[u16; 257],
+    key: &[u64; 1024],
+    exit: &[u32; 1024],
+    next: &[u8; 1024],
+    n: usize,
+    w: usize,
+    label: &mut [u32; 1280],
+    live: &mut [u32; 1280],
+    least: &mut [u32; 40],
+    before: &mut [u16; 1280],
+)
+    requires { ⌜ Ground places links n windows (now dur) (now from) (now to) (now head) (now chain) (now place) (now start) (now end) (now first) ⌝ }
+    requires { ⌜ (w < windows) × (at (now label) w ≤ 86400) ⌝ }
+    requires { ⌜ Labels (now label) (now live) (now before) ⌝ }
+    requires { ⌜ Blocks (now live) (now least) ⌝ }
+    ensures { λ _. ⌜ Relaxed (rowsIn (now (key .entry)) (now (exit .entry)) (now (next .entry)) n) places links windows (now (dur .entry)) (now (from .entry)) (now (to .entry)) (now (place .entry)) (now (start .entry)) (now (end .entry)) w (now (label .entry)) (now (live .entry)) (now (before .entry)) (now (label .exit)) (now (live .exit)) (now (before .exit)) × (Labels (now (label .exit)) (now (live .exit)) (now (before .exit)) × Blocks (now (live .exit)) (now (least .exit))) ⌝ }
+{
+    let p = place[w];
+    let here = wide(p);
+    let soonest = label[w] + dur[here];
+    let leave = end[w];
+    let mut cur = broad(head[here]);
+    while cur > 0 {
+        let j = cur - 1;
+        let q = to[j];
+        relax_link(dur, first, start, end, key, exit, next, n, q, p, soonest, leave, w, label, live, least, before);
+        cur = broad(chain[j]);
+    }
+}

@@ -1,0 +1,4 @@
+pub mod Walk
+pub mod Counts
+pub mod Reading
+pub mod WalkLaws
