@@ -8,9 +8,9 @@ use native.Mathlib.Omega.{arith}
 use Rattle.laws.specs.Order.{lt-or-ge}
 use Rattle.laws.specs.Lists.{at}
 use Rattle.flat.specs.Flat.{placeOf, Grouped}
+use Rattle.flat.specs.Links.{group-in, group-end}
 use Rattle.bookfit.specs.Each.{Each}
 use Rattle.bookfit.specs.Join.{IsLast}
-use Rattle.bookfit.specs.Groups.{within, among}
 
 -- row j goes from the next place of row i to the place of i, when i leaves it
 pub record Against (K X N : ℕ → ℕ) (i j : ℕ) : Type 0 where
@@ -52,7 +52,7 @@ module _ (X N : ℕ → ℕ) (a p x : ℕ) where
 -- rows a .. b are those of place h, the next place of row i
 module _ (K : ℕ → ℕ) {R : List ℕ} {n count : ℕ} (G : Grouped (λ i. placeOf (K i)) R n count) (X N : ℕ → ℕ) (i h a b : ℕ) (eh : h ≡ N i) (ea : a ≡ at R h) (eb : b ≡ at R (h + 1)) where
   pub rows-within : N i < n → b ≤ count
-  rows-within on = omega (arith, within G (h + 1) (omega arith))
+  rows-within on = omega (arith, group-end G (h + 1) (omega arith))
 
   -- one of them that goes on to i's place at i's exit goes against i
   pub crossed-opposed : (IsLast (K i) (N i) → ⊥) → N i < n → Crossed X N a b (placeOf (K i)) (X i) → Opposed K X N count i
@@ -66,5 +66,5 @@ module _ (K : ℕ → ℕ) {R : List ℕ} {n count : ℕ} (G : Grouped (λ i. pl
   -- and no other row does
   pub opposed-crossed : Opposed K X N count i → Crossed X N a b (placeOf (K i)) (X i)
   opposed-crossed o =
-      let m = among G h (o .by) (o .within) (o .against .place ∙ sym eh) in
+      let m = group-in G (o .by) h (o .within) (o .against .place ∙ sym eh) in
       record { by = o .by; from = omega (arith, m .0); to = omega (arith, m .1); next = o .against .next; exit = o .against .exit }

@@ -1,52 +1,26 @@
 -- The tests by index over the arrays are those of the rows that the arrays hold: rows that join, one last row a ticket and rows
 -- that fit are together chains' test, and no row against another is the exchange rule.
-use Prim.Native.Nat.{ℕ, zero, suc, _+_, _-_, _≤_, _<_}
-use mathlib.Core.Path.{_≡_, refl, sym, ap, subst, _∙_}
-use mathlib.Core.Logic.{_⊎_, inl, inr, ⊎-elim}
-use mathlib.Core.Bool.{Bool, true, false, _&&_, _||_}
-use mathlib.Core.List.{List, [], _∷_, List·Memᴰ, List·Memᴰ·not-nil, List·Memᴰ·cases-cons}
-use mathlib.Core.List.List·Memᴰ.{List·Memᴰ·head, List·Memᴰ·tail}
+use Prim.Native.Nat.{ℕ, _≤_, _<_}
+use mathlib.Core.Path.{_≡_, sym, ap, subst, _∙_}
+use mathlib.Core.Logic.{⊎-elim}
+use mathlib.Core.Bool.{Bool, true, false}
+use mathlib.Core.List.{List, List·Memᴰ}
 use native.Mathlib.Omega.{arith}
-use lib.ListN.{length, getD}
-use lib.Dec.{eqb}
-use borrow.Author.Tests.{eqb-true, eq-eqb}
 use Rattle.laws.specs.Order.{lt-or-ge}
-use Rattle.laws.specs.Tests.{true-or-false, not-both, and-in, and-l, and-r, or-out, or-l, or-r}
+use Rattle.laws.specs.Tests.{not-both}
 use Rattle.laws.specs.Lists.{at, mem-index, index-mem}
 use Rattle.rules.specs.declared.Row.{Row}
 use Rattle.rules.specs.Map.{Yard}
-use Rattle.rules.specs.Rows.{noRow, rowAt, crosses}
+use Rattle.rules.specs.Rows.{noRow, crosses}
 use Rattle.flat.specs.Flat.{placeOf, entryOf, ticketOf, rowOf, rowsIn, Packed, KeysRise}
 use Rattle.flat.specs.Laws.{rows-long, row-in}
+use Rattle.flat.specs.Crossings.{array-crosses, array-clear}
 use Rattle.chains.specs.Test.{Last, Follows, Successor, RowOk, Tested}
 use Rattle.bookfit.specs.Each.{Each}
 use Rattle.bookfit.specs.Join.{nextKey, IsLast, Found, Joined, OneLast}
 use Rattle.bookfit.specs.Rows.{RowFits, RowsFit}
 use Rattle.bookfit.specs.Against.{Against, Opposed, Unopposed}
 use Rattle.bookfit.specs.Keys.{same-key, key-next, next-parts, same-next, next-same}
-
--- a crossing is a row's
-pub crosses-row : (rows : List Row) (p q t : ℕ) → crosses rows p q t ≡ true → (r : Row) × List·Memᴰ r rows × (r .place ≡ p) × (r .next ≡ q) × (r .exit ≡ t)
-unfolding crosses
-crosses-row [] p q t h = absurd (not-both h refl)
-crosses-row (r ∷ rows) p q t h = by (or-out (eqb (r .place) p && (eqb (r .next) q && eqb (r .exit) t)) (crosses rows p q t) h) (λ k. crosses-row rows p q t k)
-  where
-    by : ((eqb (r .place) p && (eqb (r .next) q && eqb (r .exit) t)) ≡ true) ⊎ (crosses rows p q t ≡ true)
-        → (crosses rows p q t ≡ true → (s : Row) × List·Memᴰ s rows × (s .place ≡ p) × (s .next ≡ q) × (s .exit ≡ t))
-        → (s : Row) × List·Memᴰ s (r ∷ rows) × (s .place ≡ p) × (s .next ≡ q) × (s .exit ≡ t)
-    by (inl e) f =
-        let a = and-l (eqb (r .place) p) (eqb (r .next) q && eqb (r .exit) t) e in
-        let b = and-r (eqb (r .place) p) (eqb (r .next) q && eqb (r .exit) t) e in
-        (r, List·Memᴰ·head refl, eqb-true _ _ a, eqb-true _ _ (and-l (eqb (r .next) q) (eqb (r .exit) t) b), eqb-true _ _ (and-r (eqb (r .next) q) (eqb (r .exit) t) b))
-    by (inr e) f = let x = f e in (x .0, List·Memᴰ·tail (x .1), x .2, x .3, x .4)
-
-pub row-crosses : (rows : List Row) (r : Row) → List·Memᴰ r rows → crosses rows (r .place) (r .next) (r .exit) ≡ true
-unfolding crosses
-row-crosses [] r m = absurd (List·Memᴰ·not-nil m)
-row-crosses (s ∷ rows) r m =
-    ⊎-elim (λ (e : r ≡ s). or-l _ (and-in (eq-eqb _ _ (ap (λ (x : Row). x .place) (sym e))) (and-in (eq-eqb _ _ (ap (λ (x : Row). x .next) (sym e))) (eq-eqb _ _ (ap (λ (x : Row). x .exit) (sym e))))))
-    (λ (d : List·Memᴰ r rows). or-r (eqb (s .place) (r .place) && (eqb (s .next) (r .next) && eqb (s .exit) (r .exit))) (row-crosses rows r d))
-    (List·Memᴰ·cases-cons m)
 
 -- two indices of which neither is below the other
 meet : (i j : ℕ) → (i < j → ⊥) → (j < i → ⊥) → i ≡ j
@@ -75,34 +49,21 @@ module _ (K X N : List ℕ) (count : ℕ) where
 
   pub unopposed-exchange : Unopposed (at K) (at X) (at N) count
       → (r : Row) → List·Memᴰ r (rowsIn K X N count) → (r .next ≡ r .place → ⊥) → crosses (rowsIn K X N count) (r .next) (r .place) (r .exit) ≡ false
-  unopposed-exchange U r m g = ⊎-elim (λ t. absurd (broken t)) (λ f. f) (true-or-false (crosses (rowsIn K X N count) (r .next) (r .place) (r .exit)))
+  unopposed-exchange U r m g = let u = index r m in subst (λ (x : Row). crosses (rowsIn K X N count) (x .next) (x .place) (x .exit) ≡ false) (u .is) (clear u)
     where
-      broken : crosses (rowsIn K X N count) (r .next) (r .place) (r .exit) ≡ true → ⊥
-      broken t =
-          let x = crosses-row (rowsIn K X N count) (r .next) (r .place) (r .exit) t in
-          let u = index r m in
-          let v = index (x .0) (x .1) in
-          U .each (u .i) (u .h) (record {
-            goes-on = λ e. g (sym (ap (λ (r : Row). r .next) (u .is)) ∙ e ∙ ap (λ (r : Row). r .place) (u .is));
-            by = v .i;
-            within = v .h;
-            against = record {
-              place = ap (λ (r : Row). r .place) (v .is) ∙ x .2 ∙ sym (ap (λ (r : Row). r .next) (u .is));
-              next = ap (λ (r : Row). r .next) (v .is) ∙ x .3 ∙ sym (ap (λ (r : Row). r .place) (u .is));
-              exit = ap (λ (r : Row). r .exit) (v .is) ∙ x .4 ∙ sym (ap (λ (r : Row). r .exit) (u .is));
-            };
-          })
+      clear : (u : Index r) → crosses (rowsIn K X N count) (at N (u .i)) (placeOf (at K (u .i))) (at X (u .i)) ≡ false
+      clear u =
+          array-clear K X N count (at N (u .i)) (placeOf (at K (u .i))) (at X (u .i)) (λ j h a b c.
+          U .each (u .i) (u .h) (record { goes-on = λ e. g (subst Last (u .is) e); by = j; within = h; against = record { place = a; next = b; exit = c } }))
 
   pub exchange-unopposed : ((r : Row) → List·Memᴰ r (rowsIn K X N count) → (r .next ≡ r .place → ⊥) → crosses (rowsIn K X N count) (r .next) (r .place) (r .exit) ≡ false)
       → Unopposed (at K) (at X) (at N) count
-  exchange-unopposed f = record { each = λ i h o. not-both (crossing i o) (f (rowOf (at K i) (at X i) (at N i)) (member i h) (o .goes-on)) }
-    where
-      crossing : (i : ℕ) → Opposed (at K) (at X) (at N) count i → crosses (rowsIn K X N count) (at N i) (placeOf (at K i)) (at X i) ≡ true
-      crossing i o =
-          subst (λ (p : ℕ). crosses (rowsIn K X N count) p (placeOf (at K i)) (at X i) ≡ true) (o .against .place)
-          (subst (λ (q : ℕ). crosses (rowsIn K X N count) (placeOf (at K (o .by))) q (at X i) ≡ true) (o .against .next)
-          (subst (λ (x : ℕ). crosses (rowsIn K X N count) (placeOf (at K (o .by))) (at N (o .by)) x ≡ true) (o .against .exit)
-          (row-crosses (rowsIn K X N count) (rowOf (at K (o .by)) (at X (o .by)) (at N (o .by))) (member (o .by) (o .within)))))
+  exchange-unopposed f = record {
+    each = λ i h o.
+        let a = o .against in
+        not-both (array-crosses K X N count (at N i) (placeOf (at K i)) (at X i) (o .by) (o .within) (a .place) (a .next) (a .exit))
+        (f (rowOf (at K i) (at X i) (at N i)) (member i h) (o .goes-on));
+  }
 
   -- ---- chains
 

@@ -3,7 +3,6 @@ pub mod Search
 pub mod Join
 pub mod Marks
 pub mod Rows
-pub mod Groups
 pub mod Against
 pub mod Keys
 pub mod Bridge
