@@ -231,31 +231,6 @@ pub fn tickets_fit(key: &[u64; 1024], count: usize, next_ticket: u32) -> bool
     true
 }
 
-// a link goes from p to q: p's links are looked through
-fn linked_by<'a>(
-    p: usize,
-    q: u8,
-    k: usize,
-    from: &'a [u8; 1024],
-    to: &'a [u8; 1024],
-    head: &'a [u16; 256],
-    chain: &'a [u16; 1024],
-) -> bool
-    requires { ⌜ p < 256 ⌝ }
-    requires { ⌜ k ≤ 1024 ⌝ }
-    requires { ⌜ Chained (now from) k (now head) (now chain) ⌝ }
-    ensures { λ r. ⌜ r ≡ linked (linksIn (now (from .entry)) (now (to .entry)) k) p q ⌝ }
-{
-    let mut j = head[p] as usize;
-    while j > 0 {
-        if to[j - 1] == q {
-            return true;
-        }
-        j = chain[j - 1] as usize;
-    }
-    false
-}
-
 // the first second at which a row of duration d may end
 fn least_exit(key: u64, d: u32) -> u64
     ensures { λ r. ⌜ r ≡ entryOf key + d ⌝ }
@@ -298,7 +273,7 @@ fn row_fits<'a>(
     if p == q {
         return x == least;
     }
-    linked_by(p, next, k, from, to, head, chain)
+    mapfit::linked_by(p, next, k, from, to, head, chain)
 }
 
 // each row fits

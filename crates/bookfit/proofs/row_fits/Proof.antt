@@ -11,7 +11,7 @@ use Rattle.bookfit.proofs.row_fits.Tie as tie
 use Rattle.bookfit.proofs.row_fits.Reads as reads
 use Rattle.bookfit.proofs.row_fits.Lts as lts
 use Rattle.bookfit.proofs.least_exit.Reads as least-exit-reads
-use Rattle.bookfit.proofs.linked_by.Reads as linked-by-reads
+use Rattle.mapfit.proofs.linked_by.Reads as linked-by-reads
 
 -- src/lib.rt:288:33
 mul-least-exit : tie.Need-mul-least-exit

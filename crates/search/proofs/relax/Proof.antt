@@ -1,5 +1,3 @@
--- `search::relax` meets its contract: the links of p are followed from the last to the first, each offering the windows of the place that it leads to;
--- the other windows have no entry from w. The number of the link falls.
 use Prim.Native.Nat.{ℕ, _+_, _-_, _*_, _/_, _%_, _≤_, _<_, min, max}
 use mathlib.Core.Path.{_≡_, refl, sym, ap, subst, _∙_}
 use mathlib.Core.Logic.{_⊎_, inl, inr, ⊎-elim}
@@ -22,6 +20,8 @@ use Rattle.search.proofs.broad.Reads as broad-reads
 use Rattle.search.proofs.relax_link.Reads as relax-link-reads
 use Rattle.search.proofs.wide.Reads as wide-reads
 
+-- the other windows have no entry from w. The number of the link falls.
+
 abbrev Inv-loop : tie.InvT-loop
 Inv-loop places links windows dur from to head chain place start end first key exit next n w label₀ live₀ least₀ before₀ p here soonest leave cur₀ label live least before cur = AlongLinks (rowsIn key exit next n) places links windows dur from to place start end w (at place w) label₀ live₀ before₀ cur label live least before
 
@@ -30,79 +30,101 @@ abbrev μ-loop : tie.MeasureT-loop
 
 -- src/lib.rt:297:13
 element-copy-out-p : tie.Need-element-copy-out-p Inv-loop μ-loop
-element-copy-out-p c = ?
+element-copy-out-p c = search needs
 
 -- src/lib.rt:298:9
 wide-requires : tie.Need-wide-requires Inv-loop μ-loop
-wide-requires c κs = ?
+wide-requires c κs = search needs
 
 -- src/lib.rt:299:19
 mul-soonest : tie.Need-mul-soonest Inv-loop μ-loop
-mul-soonest c = ?
+mul-soonest c = search needs
 
 -- src/lib.rt:299:19
 element-copy-out-soonest : tie.Need-element-copy-out-soonest Inv-loop μ-loop
-element-copy-out-soonest c = ?
+element-copy-out-soonest c = search needs
 
 -- src/lib.rt:299:30
 mul-soonest-2 : tie.Need-mul-soonest-2 Inv-loop μ-loop
-mul-soonest-2 c = ?
+mul-soonest-2 c = search needs
 
 -- src/lib.rt:299:30
 element-copy-out-soonest-2 : tie.Need-element-copy-out-soonest-2 Inv-loop μ-loop
-element-copy-out-soonest-2 c = ?
+element-copy-out-soonest-2 c = search needs
 
 -- src/lib.rt:299:19
 add-soonest : tie.Need-add-soonest Inv-loop μ-loop
-add-soonest c = ?
+add-soonest c =
+    let s = c .before .before .before .before in
+    let G = s .pre .0 in
+    let h = group-place (G .by-place) (s .args .w) (s .pre .1 .0 .0) in
+    let e = ap (at (s .args .dur .now)) (c .before .before .wide .ensures .0) in
+    omega (arith, s .pre .1 .0 .1, G .durs (at (s .args .place .now) (s .args .w)) h)
 
 -- src/lib.rt:300:17
 mul-leave : tie.Need-mul-leave Inv-loop μ-loop
-mul-leave c = ?
+mul-leave c = search needs
 
 -- src/lib.rt:300:17
 element-copy-out-leave : tie.Need-element-copy-out-leave Inv-loop μ-loop
-element-copy-out-leave c = ?
+element-copy-out-leave c = search needs
 
 -- src/lib.rt:301:25
 mul-broad : tie.Need-mul-broad Inv-loop μ-loop
-mul-broad c = ?
+mul-broad c = search needs
 
 -- src/lib.rt:301:25
 element-copy-out-broad : tie.Need-element-copy-out-broad Inv-loop μ-loop
-element-copy-out-broad c = ?
+element-copy-out-broad c = search needs
 
 -- src/lib.rt:301:9
 broad-requires : tie.Need-broad-requires Inv-loop μ-loop
-broad-requires c κs = ?
+broad-requires c κs = search needs
 
 -- src/lib.rt:302:5
 loop-holds : tie.Need-loop-holds Inv-loop μ-loop
-loop-holds c = ?
+loop-holds c =
+    let s = c .before .before .before .before .before .before .before in
+    let G = s .pre .0 in
+    let e : c .broad .result ≡ at (s .args .head .now) (at (s .args .place .now) (s .args .w)) = c .broad .ensures .0 ∙ ap (at (s .args .head .now)) (c .before .before .before .before .before .wide .ensures .0) in
+    rw e (along-start (rowsIn (s .args .key .now) (s .args .exit .now) (s .args .next .now) (s .args .n)) G (s .pre .1 .0 .0) refl (s .pre .1 .1 .0) (s .pre .1 .1 .1))
 
 -- src/lib.rt:303:17
 sub-j : tie.Need-sub-j Inv-loop μ-loop
-sub-j c = ?
+sub-j c = search needs
 
 -- src/lib.rt:304:17
 element-copy-out-q : tie.Need-element-copy-out-q Inv-loop μ-loop
-element-copy-out-q c = ?
+element-copy-out-q c = search needs
 
 -- src/lib.rt:305:9
 relax-link-requires : tie.Need-relax-link-requires Inv-loop μ-loop
-relax-link-requires c κs = ?
+relax-link-requires c κs =
+    let s = c .before .before .before .before .before .before .before .before .before .before .before .before .before .before in
+    let l = c .before .before .before .before .before .before .loop in
+    let G = s .pre .0 in
+    let a = s .args in
+    let j : ℕ = l .cur - 1 in
+    let jk : j < a .links = omega (arith, l .inv .within, c .before .before .before .before .before .loop-test .taken) in
+    let q : ℕ = at (a .to .now) j in
+    let qn : q < a .places = G .to-on j jk in
+    let h = group-place (G .by-place) (a .w) (s .pre .1 .0 .0) in
+    let e = ap (at (a .dur .now)) (c .before .before .before .before .before .before .before .before .before .before .before .before .wide .ensures .0) in
+    ((G .rows, omega (arith, G .windows, s .pre .1 .0 .0), omega (arith, s .pre .1 .0 .1, G .durs (at (a .place .now) (a .w)) h), G .in-day (a .w) (s .pre .1 .0 .0)),
+      ((G .by-place .up q qn, omega (arith, group-end (G .by-place) (q + 1) (omega arith), G .windows), G .durs q qn),
+        (G .of-place q qn, (l .inv .labels, l .inv .blocks))))
 
 -- src/lib.rt:306:21
 mul-broad-2 : tie.Need-mul-broad-2 Inv-loop μ-loop
-mul-broad-2 c = ?
+mul-broad-2 c = search needs
 
 -- src/lib.rt:306:21
 element-copy-out-broad-2 : tie.Need-element-copy-out-broad-2 Inv-loop μ-loop
-element-copy-out-broad-2 c = ?
+element-copy-out-broad-2 c = search needs
 
 -- src/lib.rt:306:9
 broad-requires-2 : tie.Need-broad-requires-2 Inv-loop μ-loop
-broad-requires-2 c κs = ?
+broad-requires-2 c κs = search needs
 
 -- src/lib.rt:302:5
 loop-less : tie.Need-loop-less Inv-loop μ-loop
