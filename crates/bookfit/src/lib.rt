@@ -92,10 +92,10 @@ fn is_last(key: u64, next: u8) -> bool
 }
 
 // each of the rows that is not last has its successor, no two the same
-pub fn rows_join<'a>(
-    key: &'a [u64; 1024],
-    exit: &'a [u32; 1024],
-    next: &'a [u8; 1024],
+pub fn rows_join(
+    key: &[u64; 1024],
+    exit: &[u32; 1024],
+    next: &[u8; 1024],
     count: usize,
 ) -> bool
     requires { ⌜ count ≤ 1024 ⌝ }
@@ -134,7 +134,7 @@ fn last_of(key: u64, next: u8, t: u64) -> bool
 }
 
 // a last row of ticket t is among the first i
-fn last_among<'a>(key: &'a [u64; 1024], next: &'a [u8; 1024], i: usize, t: u64) -> bool
+fn last_among(key: &[u64; 1024], next: &[u8; 1024], i: usize, t: u64) -> bool
     requires { ⌜ i ≤ 1024 ⌝ }
     ensures { λ r. ⌜ (r ≡ true → LastBelow (at (now (key .entry))) (at (now (next .entry))) i t) × (LastBelow (at (now (key .entry))) (at (now (next .entry))) i t → r ≡ true) ⌝ }
 {
@@ -156,7 +156,7 @@ fn slot_of(k: u64) -> usize
 }
 
 // where the slot is marked: a last row of ticket t is among the first i
-fn last_met<'a>(key: &'a [u64; 1024], next: &'a [u8; 1024], i: usize, t: u64, marked: bool) -> bool
+fn last_met(key: &[u64; 1024], next: &[u8; 1024], i: usize, t: u64, marked: bool) -> bool
     requires { ⌜ i ≤ 1024 ⌝ }
     ensures { λ r. ⌜ (r ≡ true → LastBelow (at (now (key .entry))) (at (now (next .entry))) i t) × (marked ≡ true → LastBelow (at (now (key .entry))) (at (now (next .entry))) i t → r ≡ true) ⌝ }
 {
@@ -167,7 +167,7 @@ fn last_met<'a>(key: &'a [u64; 1024], next: &'a [u8; 1024], i: usize, t: u64, ma
 }
 
 // no two last rows have the same ticket: a look back only where a ticket's slot is marked already
-pub fn one_last_row<'a>(key: &'a [u64; 1024], next: &'a [u8; 1024], count: usize) -> bool
+pub fn one_last_row(key: &[u64; 1024], next: &[u8; 1024], count: usize) -> bool
     requires { ⌜ count ≤ 1024 ⌝ }
     ensures { λ r. ⌜ (r ≡ true → OneLast (at (now (key .entry))) (at (now (next .entry))) count) × (OneLast (at (now (key .entry))) (at (now (next .entry))) count → r ≡ true) ⌝ }
 {
@@ -239,14 +239,14 @@ fn least_exit(key: u64, d: u32) -> u64
 }
 
 // a row keeps to the map, to the day and to its place's duration, and goes on along a link
-fn row_fits<'a>(
+fn row_fits(
     n: usize,
     k: usize,
-    dur: &'a [u32; 256],
-    from: &'a [u8; 1024],
-    to: &'a [u8; 1024],
-    head: &'a [u16; 256],
-    chain: &'a [u16; 1024],
+    dur: &[u32; 256],
+    from: &[u8; 1024],
+    to: &[u8; 1024],
+    head: &[u16; 256],
+    chain: &[u16; 1024],
     key: u64,
     exit: u32,
     next: u8,
@@ -277,17 +277,17 @@ fn row_fits<'a>(
 }
 
 // each row fits
-pub fn rows_fit<'a>(
+pub fn rows_fit(
     n: usize,
     k: usize,
-    dur: &'a [u32; 256],
-    from: &'a [u8; 1024],
-    to: &'a [u8; 1024],
-    head: &'a [u16; 256],
-    chain: &'a [u16; 1024],
-    key: &'a [u64; 1024],
-    exit: &'a [u32; 1024],
-    next: &'a [u8; 1024],
+    dur: &[u32; 256],
+    from: &[u8; 1024],
+    to: &[u8; 1024],
+    head: &[u16; 256],
+    chain: &[u16; 1024],
+    key: &[u64; 1024],
+    exit: &[u32; 1024],
+    next: &[u8; 1024],
     count: usize,
 ) -> bool
     requires { ⌜ count ≤ 1024 ⌝ }
@@ -321,9 +321,9 @@ fn goes_to(exit: u32, next: u8, p: u64, x: u32) -> bool
 }
 
 // one of the rows a .. b goes on to p at x
-fn crossed<'a>(
-    exit: &'a [u32; 1024],
-    next: &'a [u8; 1024],
+fn crossed(
+    exit: &[u32; 1024],
+    next: &[u8; 1024],
     a: usize,
     b: usize,
     p: u64,
@@ -355,13 +355,13 @@ fn row_index(i: u16) -> usize
 }
 
 // row i goes on, and a row of its next place goes against it
-fn opposed<'a>(
+fn opposed(
     n: usize,
-    key: &'a [u64; 1024],
-    exit: &'a [u32; 1024],
-    next: &'a [u8; 1024],
+    key: &[u64; 1024],
+    exit: &[u32; 1024],
+    next: &[u8; 1024],
     count: usize,
-    rows: &'a [u16; 257],
+    rows: &[u16; 257],
     i: usize,
 ) -> bool
     requires { ⌜ count ≤ 1024 ⌝ }
@@ -382,13 +382,13 @@ fn opposed<'a>(
 }
 
 // no row goes against another
-pub fn exchange_kept<'a>(
+pub fn exchange_kept(
     n: usize,
-    key: &'a [u64; 1024],
-    exit: &'a [u32; 1024],
-    next: &'a [u8; 1024],
+    key: &[u64; 1024],
+    exit: &[u32; 1024],
+    next: &[u8; 1024],
     count: usize,
-    rows: &'a [u16; 257],
+    rows: &[u16; 257],
 ) -> bool
     requires { ⌜ count ≤ 1024 ⌝ }
     requires { ⌜ Grouped (λ j. placeOf (at (now key) j)) (now rows) n count ⌝ }
