@@ -27,8 +27,8 @@ use Rattle.bookfit.specs.Against.{Unopposed}
 use Rattle.bookfit.specs.Keys.{less-key, key-less}
 use Rattle.bookfit.specs.Bridge.{unopposed-exchange, exchange-unopposed, index-tested, tested-fits, tested-joined, tested-one-last}
 
--- what the tests ask of the arrays
-pub record Tests (C D : List ℕ) (n : ℕ) (F T : List ℕ) (k : ℕ) (K X N : List ℕ) (count t : ℕ) : Type 0 where
+-- what is asked of the rows before their place's room is looked at
+pub record Sound (D : List ℕ) (n : ℕ) (F T : List ℕ) (k : ℕ) (K X N : List ℕ) (count t : ℕ) : Type 0 where
   pub few : count ≤ rowLimit
   pub ticket-from : 1 ≤ t
   pub ticket-to : t ≤ ticketLimit
@@ -37,6 +37,10 @@ pub record Tests (C D : List ℕ) (n : ℕ) (F T : List ℕ) (k : ℕ) (K X N : 
   pub fits : RowsFit n (at D) (linked (linksIn F T k)) (at K) (at X) (at N) count
   pub joined : Joined (at K) (at X) (at N) count count
   pub one-last : OneLast (at K) (at N) count
+
+-- what the tests ask of the arrays
+pub record Tests (C D : List ℕ) (n : ℕ) (F T : List ℕ) (k : ℕ) (K X N : List ℕ) (count t : ℕ) : Type 0 where
+  pub sound : Sound D n F T k K X N count t
   pub room : (p s : ℕ) → p < n → load (rowsIn K X N count) p s ≤ at C p
   pub exchange : Unopposed (at K) (at X) (at N) count
 
@@ -107,14 +111,14 @@ module _ {C D : List ℕ} {n : ℕ} {F T : List ℕ} {k : ℕ} {K X N : List ℕ
       let R = yard-rules M in
       let O = yard-of C D F T n k M in
       let c = rows-long K X N count in
-      let A : RowsFit (yardIn C D n F T k .places) (yardIn C D n F T k .dur) (yardIn C D n F T k .link) (at K) (at X) (at N) count = record { each = λ i h. fits-yard O (S .fits .each i h) } in
+      let A : RowsFit (yardIn C D n F T k .places) (yardIn C D n F T k .dur) (yardIn C D n F T k .link) (at K) (at X) (at N) count = record { each = λ i h. fits-yard O (S .sound .fits .each i h) } in
       record {
-        few = omega (arith, S .few);
-        rising = keys-rising K X N count (S .rise);
-        ticket-from = S .ticket-from;
-        ticket-to = S .ticket-to;
-        ranges = λ i h. let hi : i < count = omega arith in rw (row-in K X N count i hi) (ranges-of R (A .each i hi) (S .tickets .each i hi .from) (S .tickets .each i hi .to));
-        whole = tested-whole R (index-tested K X N count P (yardIn C D n F T k) A (S .joined) (S .one-last));
+        few = omega (arith, S .sound .few);
+        rising = keys-rising K X N count (S .sound .rise);
+        ticket-from = S .sound .ticket-from;
+        ticket-to = S .sound .ticket-to;
+        ranges = λ i h. let hi : i < count = omega arith in rw (row-in K X N count i hi) (ranges-of R (A .each i hi) (S .sound .tickets .each i hi .from) (S .sound .tickets .each i hi .to));
+        whole = tested-whole R (index-tested K X N count P (yardIn C D n F T k) A (S .sound .joined) (S .sound .one-last));
         room = λ p s h. let hp : p < n = omega (arith, O .places) in omega (arith, S .room p s hp, O .caps p hp);
         exchange = unopposed-exchange K X N count (S .exchange);
       }
@@ -126,6 +130,7 @@ module _ {C D : List ℕ} {n : ℕ} {F T : List ℕ} {k : ℕ} {K X N : List ℕ
       let R = rising-keys K X N count (W .rising) in
       let tested = whole-tested (yard-rules M) (W .whole) in
       record {
+        sound = record {
         few = omega (arith, W .few);
         ticket-from = W .ticket-from;
         ticket-to = W .ticket-to;
@@ -134,6 +139,7 @@ module _ {C D : List ℕ} {n : ℕ} {F T : List ℕ} {k : ℕ} {K X N : List ℕ
         fits = record { each = λ i h. yard-fits O (tested-fits K X N count P (yardIn C D n F T k) R tested .each i h) };
         joined = tested-joined K X N count P (yardIn C D n F T k) R tested;
         one-last = tested-one-last K X N count P (yardIn C D n F T k) R tested;
+        };
         room = λ p s h. omega (arith, W .room p s (omega (arith, O .places)), O .caps p h);
         exchange = exchange-unopposed K X N count (W .exchange);
       }

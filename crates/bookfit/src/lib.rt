@@ -12,6 +12,7 @@ ghost use Rattle.bookfit.specs.Search.{Split};
 ghost use Rattle.bookfit.specs.Join.{nextKey, IsLast, Spot, Joined, OneLast, LastBelow};
 ghost use Rattle.bookfit.specs.Rows.{TicketFits, TicketsFit, RowFits, RowsFit};
 ghost use Rattle.bookfit.specs.Against.{Crossed, Opposed, Unopposed};
+ghost use Rattle.bookfit.specs.Formed.{Sound};
 
 // ---- a key among the keys of the book
 
@@ -403,4 +404,51 @@ pub fn exchange_kept(
         i += 1;
     }
     true
+}
+
+// ---- the whole book
+
+// all that is asked of the rows before the room at their places is looked at
+fn rows_sound(
+    n: usize,
+    k: usize,
+    dur: &[u32; 256],
+    from: &[u8; 1024],
+    to: &[u8; 1024],
+    head: &[u16; 256],
+    chain: &[u16; 1024],
+    count: usize,
+    next_ticket: u32,
+    key: &[u64; 1024],
+    exit: &[u32; 1024],
+    next: &[u8; 1024],
+) -> bool
+    requires { ⌜ k ≤ 1024 ⌝ }
+    requires { ⌜ Chained (now from) k (now head) (now chain) ⌝ }
+    requires { ⌜ Packed (now key) (now exit) ⌝ }
+    ensures { λ r. ⌜ (r ≡ true → Sound (now (dur .entry)) n (now (from .entry)) (now (to .entry)) k (now (key .entry)) (now (exit .entry)) (now (next .entry)) count «next_ticket»)
+        × (Sound (now (dur .entry)) n (now (from .entry)) (now (to .entry)) k (now (key .entry)) (now (exit .entry)) (now (next .entry)) count «next_ticket» → r ≡ true) ⌝ }
+{
+    if count > 1024 {
+        return false;
+    }
+    if next_ticket < 1 {
+        return false;
+    }
+    if next_ticket > 1000000 {
+        return false;
+    }
+    if !rising(key, count) {
+        return false;
+    }
+    if !tickets_fit(key, count, next_ticket) {
+        return false;
+    }
+    if !rows_fit(n, k, dur, from, to, head, chain, key, exit, next, count) {
+        return false;
+    }
+    if !rows_join(key, exit, next, count) {
+        return false;
+    }
+    one_last_row(key, next, count)
 }
