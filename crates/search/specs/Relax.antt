@@ -139,17 +139,17 @@ module _ (rows : List Row) {n k c m : ℕ} {D F T H N P S E I : List ℕ} (G : G
       leaves-p = A .leaves j e
 
       -- link j was followed, and the one before it of the same place is next
-      pub along-next : {lab″ op″ le″ bef″ : List ℕ}
-          → OfferedTo rows (at T j) p (at lab u + at D p) (at E u) (at D (at T j)) S E (at I (at T j)) (at I (at T j + 1)) u lab′ op′ bef′ (at I (at T j + 1)) lab″ op″ bef″
+      pub along-next : {lab″ op″ le″ bef″ : List ℕ} {soonest : ℕ} → soonest ≡ at lab u + at D p
+          → OfferedTo rows (at T j) p soonest (at E u) (at D (at T j)) S E (at I (at T j)) (at I (at T j + 1)) u lab′ op′ bef′ (at I (at T j + 1)) lab″ op″ bef″
           → Labels lab″ op″ bef″ → Blocks op″ le″ → AlongLinks rows n k m D F T P S E u p lab op bef (at N j) lab″ op″ le″ bef″
-      along-next {lab″} {op″} {le″} {bef″} O L B =
+      along-next {lab″} {op″} {le″} {bef″} es O L B =
           let Z = subst (LastIs F p j) (sym (G .chained .link j link-below ∙ ap (λ x. lastBefore F x j) leaves-p)) (last-is F p j) in
           record {
             within = omega (arith, Z .within, link-below);
             leaves = Z .leaves;
             led = record { through = λ Y R.
               through-join (A .led .through Y R)
-              (O .through (λ v. nextBy Y rows P S E u v (at lab u)) (next-entries R (at lab u) (at T j) (G .to-on j link-below) (R .links p (at T j) ∙ array-linked F T k p (at T j) j link-below leaves-p refl)))
+              (O .through (λ v. nextBy Y rows P S E u v (at lab u)) (rw es (next-entries R (at lab u) (at T j) (G .to-on j link-below) (R .links p (at T j) ∙ array-linked F T k p (at T j) j link-below leaves-p refl))))
               (led-or-not F T k p P m cur) (in-or-out (at I (at T j)) (at I (at T j + 1)))
               (into Z) (out Z) };
             labels = L;

@@ -1,4 +1,4 @@
-use Prim.Native.Nat.{ℕ, _+_, _-_, _*_, _/_, _%_, _≤_, _<_, min, max}
+use Prim.Native.Nat.{ℕ, suc, _+_, _-_, _*_, _/_, _%_, _≤_, _<_, min, max}
 use mathlib.Core.Path.{_≡_, refl, sym, ap, subst, _∙_}
 use mathlib.Core.Logic.{_⊎_, inl, inr, ⊎-elim}
 use mathlib.Core.Bool.{Bool, true, false, not}
@@ -8,9 +8,10 @@ use lib.ListN.{length, getD, set}
 use borrow.Author.Needs.{needs}
 use Rattle.laws.specs.Lists.{at}
 use Rattle.flat.specs.Flat.{rowsIn}
+use Rattle.flat.specs.Laws.{last-is}
 use Rattle.flat.specs.Links.{group-place, group-end}
 use Rattle.settle.specs.Blocks.{Blocks}
-use Rattle.search.specs.Offers.{Labels}
+use Rattle.search.specs.Offers.{Labels, OfferedTo}
 use Rattle.search.specs.Relax.{Ground, AlongLinks, along-start, along-next, along-end}
 use Rattle.search.proofs.relax.Statement.{statement}
 use Rattle.search.proofs.relax.Tie as tie
@@ -128,15 +129,40 @@ broad-requires-2 c κs = search needs
 
 -- src/lib.rt:302:5
 loop-less : tie.Need-loop-less Inv-loop μ-loop
-loop-less c = ?
+loop-less c =
+    let s = c .before .before .before .before .before .before .before .before .before .before .before .before .before .before .before .before .before in
+    let l = c .before .before .before .before .before .before .before .before .before .loop in
+    let G = s .pre .0 in
+    let j : ℕ = l .cur - 1 in
+    let jk : j < s .args .links = omega (arith, l .inv .within, c .before .before .before .before .before .before .before .before .loop-test .taken) in
+    let e = c .broad2 .ensures .0 in
+    let z = last-is (s .args .from .now) (at (s .args .from .now) j) j .within in
+    omega (arith, G .chained .link j jk, c .before .before .before .before .before .before .before .before .loop-test .taken)
 
 -- src/lib.rt:302:5
 loop-again : tie.Need-loop-again Inv-loop μ-loop
-loop-again c = ?
+loop-again c =
+    let s = c .before .before .before .before .before .before .before .before .before .before .before .before .before .before .before .before .before in
+    let l = c .before .before .before .before .before .before .before .before .before .loop in
+    let a = s .args in
+    let j : ℕ = l .cur - 1 in
+    let ej : suc j ≡ l .cur = omega (arith, c .before .before .before .before .before .before .before .before .loop-test .taken) in
+    let rows = rowsIn (a .key .now) (a .exit .now) (a .next .now) (a .n) in
+    let w = c .before .before .before .before .before .before .before .before .before .before .before .before .before .before .before .wide .ensures .0 in
+    rw (c .broad2 .ensures .0) (along-next rows (s .pre .0) (s .pre .1 .0 .0) refl (l .inv) ej (ap (λ x. at (a .label .now) (a .w) + at (a .dur .now) x) w)
+      (c .before .before .relax-link .ensures .0) (c .before .before .relax-link .ensures .1 .0) (c .before .before .relax-link .ensures .1 .1))
 
 -- src/lib.rt:268:1
 returns : tie.Need-returns Inv-loop μ-loop
-returns c = ?
+returns c =
+    let s = c .before .before .before .before .before .before .before .before .before in
+    let l = c .before .loop in
+    let a = s .args in
+    let rows = rowsIn (a .key .now) (a .exit .now) (a .next .now) (a .n) in
+    let e : l .cur ≡ 0 = omega (arith, c .loop-test .left) in
+    let I : AlongLinks rows (a .places) (a .links) (a .windows) (a .dur .now) (a .from .now) (a .to .now) (a .place .now) (a .start .now) (a .end .now) (a .w) (at (a .place .now) (a .w)) (a .label .now) (a .live .now) (a .before .now) 0 (l .label) (l .live) (l .least) (l .before)
+        = subst (λ x. AlongLinks rows (a .places) (a .links) (a .windows) (a .dur .now) (a .from .now) (a .to .now) (a .place .now) (a .start .now) (a .end .now) (a .w) (at (a .place .now) (a .w)) (a .label .now) (a .live .now) (a .before .now) x (l .label) (l .live) (l .least) (l .before)) e (l .inv) in
+    (along-end rows (s .pre .0) (s .pre .1 .0 .0) refl (s .pre .1 .1 .0 .low) I, (l .inv .labels, l .inv .blocks))
 
 pub relax-spec : {M : Type 1} → statement M
 relax-spec =

@@ -1,0 +1,10 @@
+pub mod Sums
+pub mod Sweep
+pub mod Loads
+pub mod Written
+pub mod Turns
+pub mod Places
+pub mod Runs
+pub mod Groups
+pub mod Listed
+pub mod Going
