@@ -105,7 +105,7 @@ ranges-of R f a b = record {
   ticket-to = b;
 }
 
-module _ {C D : List ℕ} {n : ℕ} {F T : List ℕ} {k : ℕ} {K X N : List ℕ} {count t : ℕ} (M : MapRules (placesIn C D n) (linksIn F T k)) (P : Packed K X) where
+module _ (C D : List ℕ) (n : ℕ) (F T : List ℕ) (k : ℕ) (K X N : List ℕ) (count t : ℕ) (M : MapRules (placesIn C D n) (linksIn F T k)) (P : Packed K X) where
   pub tests-formed : Tests C D n F T k K X N count t → WellFormed (yardIn C D n F T k) (rowsIn K X N count) t
   tests-formed S =
       let R = yard-rules M in

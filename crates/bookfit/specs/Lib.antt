@@ -7,3 +7,4 @@ pub mod Against
 pub mod Keys
 pub mod Bridge
 pub mod Formed
+pub mod Answer

@@ -6,13 +6,14 @@ ghost use Prim.Native.Nat.{ℕ, _+_, _*_, _≤_, _<_, _/_, _%_};
 ghost use lib.ListN.{length, getD};
 ghost use lib.Dec.{eqb};
 ghost use Rattle.laws.specs.Lists.{at};
-ghost use Rattle.rules.specs.Map.{linked};
-ghost use Rattle.flat.specs.Flat.{linksIn, Chained, placeOf, entryOf, ticketOf, rowOf, Packed, KeysRise, Grouped};
+ghost use Rattle.rules.specs.Map.{linked, MapRules};
+ghost use Rattle.flat.specs.Flat.{placesIn, linksIn, Chained, placeOf, entryOf, ticketOf, rowOf, Packed, KeysRise, Grouped};
 ghost use Rattle.bookfit.specs.Search.{Split};
 ghost use Rattle.bookfit.specs.Join.{nextKey, IsLast, Spot, Joined, OneLast, LastBelow};
 ghost use Rattle.bookfit.specs.Rows.{TicketFits, TicketsFit, RowFits, RowsFit};
 ghost use Rattle.bookfit.specs.Against.{Crossed, Opposed, Unopposed};
 ghost use Rattle.bookfit.specs.Formed.{Sound};
+ghost use Rattle.bookfit.specs.Answer.{BookFits};
 
 // ---- a key among the keys of the book
 
@@ -451,4 +452,49 @@ fn rows_sound(
         return false;
     }
     one_last_row(key, next, count)
+}
+
+// The number of free windows of a well-formed book, which stand in the lent arrays place after place; 1,281 where the book is not well formed.
+pub fn book_fits(
+    n: usize,
+    k: usize,
+    cap: &[u8; 256],
+    dur: &[u32; 256],
+    from: &[u8; 1024],
+    to: &[u8; 1024],
+    head: &[u16; 256],
+    chain: &[u16; 1024],
+    count: usize,
+    next_ticket: u32,
+    key: &[u64; 1024],
+    exit: &[u32; 1024],
+    next: &[u8; 1024],
+    rows: &mut [u16; 257],
+    start: &mut [u32; 1280],
+    end: &mut [u32; 1280],
+    place: &mut [u8; 1280],
+    first: &mut [u16; 257],
+) -> usize
+    requires { ⌜ MapRules (placesIn (now cap) (now dur) n) (linksIn (now from) (now to) k) ⌝ }
+    requires { ⌜ Chained (now from) k (now head) (now chain) ⌝ }
+    requires { ⌜ Packed (now key) (now exit) ⌝ }
+    requires { ⌜ length (now rows) ≡ 257 ⌝ }
+    requires { ⌜ length (now start) ≡ 1280 ⌝ }
+    requires { ⌜ length (now end) ≡ 1280 ⌝ }
+    requires { ⌜ length (now place) ≡ 1280 ⌝ }
+    requires { ⌜ length (now first) ≡ 257 ⌝ }
+    ensures { λ r. ⌜ BookFits (now (cap .entry)) (now (dur .entry)) n (now (from .entry)) (now (to .entry)) k (now (key .entry)) (now (exit .entry)) (now (next .entry)) count «next_ticket»
+        r (now (rows .exit)) (now (start .exit)) (now (end .exit)) (now (place .exit)) (now (first .exit)) ⌝ }
+{
+    if !rows_sound(n, k, dur, from, to, head, chain, count, next_ticket, key, exit, next) {
+        return 1281;
+    }
+    let w = windows::all_windows(n, count, cap, dur, key, exit, rows, start, end, place, first);
+    if w == 1281 {
+        return 1281;
+    }
+    if !exchange_kept(n, key, exit, next, count, rows) {
+        return 1281;
+    }
+    w
 }
