@@ -1,8 +1,7 @@
 -- What the test of a book answers: the number of free windows where the book is well formed, 1,281 where it is not. The rows that
 -- pass the first tests are what finding the windows asks for; room and exchange are decided after it.
-use Prim.Native.Nat.{ℕ, _+_, _≤_, _<_}
-use mathlib.Core.Path.{_≡_, refl, sym, ap, _∙_}
-use mathlib.Core.Bool.{Bool, true, false}
+use Prim.Native.Nat.{ℕ, _≤_, _<_}
+use mathlib.Core.Path.{_≡_, ap}
 use mathlib.Core.List.{List}
 use native.Mathlib.Omega.{arith}
 use lib.ListN.{length}

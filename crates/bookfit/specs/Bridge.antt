@@ -3,7 +3,7 @@
 use Prim.Native.Nat.{ℕ, _≤_, _<_}
 use mathlib.Core.Path.{_≡_, sym, ap, subst, _∙_}
 use mathlib.Core.Logic.{⊎-elim}
-use mathlib.Core.Bool.{Bool, true, false}
+use mathlib.Core.Bool.{false}
 use mathlib.Core.List.{List, List·Memᴰ}
 use native.Mathlib.Omega.{arith}
 use Rattle.laws.specs.Order.{lt-or-ge}
@@ -12,14 +12,13 @@ use Rattle.laws.specs.Lists.{at, mem-index, index-mem}
 use Rattle.rules.specs.declared.Row.{Row}
 use Rattle.rules.specs.Map.{Yard}
 use Rattle.rules.specs.Rows.{noRow, crosses}
-use Rattle.flat.specs.Flat.{placeOf, entryOf, ticketOf, rowOf, rowsIn, Packed, KeysRise}
+use Rattle.flat.specs.Flat.{placeOf, ticketOf, rowOf, rowsIn, Packed, KeysRise}
 use Rattle.flat.specs.Laws.{rows-long, row-in}
 use Rattle.flat.specs.Crossings.{array-crosses, array-clear}
-use Rattle.chains.specs.Test.{Last, Follows, Successor, RowOk, Tested}
-use Rattle.bookfit.specs.Each.{Each}
+use Rattle.chains.specs.Test.{Last, Successor, RowOk, Tested}
 use Rattle.bookfit.specs.Join.{nextKey, IsLast, Found, Joined, OneLast}
-use Rattle.bookfit.specs.Rows.{RowFits, RowsFit}
-use Rattle.bookfit.specs.Against.{Against, Opposed, Unopposed}
+use Rattle.bookfit.specs.Rows.{RowsFit}
+use Rattle.bookfit.specs.Against.{Unopposed}
 use Rattle.bookfit.specs.Keys.{same-key, key-next, next-parts, same-next, next-same}
 
 -- two indices of which neither is below the other

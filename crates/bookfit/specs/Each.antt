@@ -1,6 +1,6 @@
 -- A fact of each of the first rows: it holds of none at first, and of one more after each turn of a loop.
 use Prim.Native.Nat.{ℕ, _+_, _≤_, _<_}
-use mathlib.Core.Path.{_≡_, subst}
+use mathlib.Core.Path.{subst}
 use mathlib.Core.Logic.{⊎-elim}
 use native.Mathlib.Omega.{arith}
 use Rattle.laws.specs.Order.{lt-or-ge}

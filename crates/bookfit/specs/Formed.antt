@@ -1,28 +1,24 @@
 -- The whole test of a book's arrays is the definition: where it is passed the rows are a well-formed book, and a well-formed
 -- book passes it. That each ticket's rows are a whole plan is chains' law; the ranges follow from the fits, and the rows' order
 -- is the order of the packed keys.
-use Prim.Native.Nat.{ℕ, _+_, _≤_, _<_}
-use mathlib.Core.Path.{_≡_, refl, sym, ap, subst, _∙_}
-use mathlib.Core.Logic.{_⊎_, inl, inr, ⊎-elim}
-use mathlib.Core.Bool.{Bool, true, false}
+use Prim.Native.Nat.{ℕ, _≤_, _<_}
+use mathlib.Core.Path.{_≡_}
+use mathlib.Core.Logic.{⊎-elim}
 use mathlib.Core.List.{List}
 use native.Mathlib.Omega.{arith}
-use lib.ListN.{length}
 use Rattle.laws.specs.Order.{eq-or-ne}
 use Rattle.laws.specs.Lists.{at}
 use Rattle.rules.specs.declared.Row.{Row}
-use Rattle.rules.specs.Limits.{day, rowLimit, ticketLimit}
+use Rattle.rules.specs.Limits.{rowLimit, ticketLimit}
 use Rattle.rules.specs.Map.{Yard, MapRules, linked}
-use Rattle.rules.specs.Rows.{rowAt, rowKey, Less, Rising, load}
+use Rattle.rules.specs.Rows.{Rising, load}
 use Rattle.rules.specs.Book.{Ranges, WellFormed}
 use Rattle.lanes.specs.Yards.{YardRules, yard-rules}
-use Rattle.flat.specs.Flat.{placesIn, linksIn, yardIn, Of, ticketOf, rowOf, rowsIn, Packed, KeysRise}
+use Rattle.flat.specs.Flat.{placesIn, linksIn, yardIn, Of, rowsIn, Packed, KeysRise}
 use Rattle.flat.specs.Laws.{rows-long, row-in, yard-of}
-use Rattle.chains.specs.Test.{Last, Tested}
 use Rattle.chains.specs.Laws.{tested-whole, whole-tested}
-use Rattle.bookfit.specs.Each.{Each}
 use Rattle.bookfit.specs.Join.{Joined, OneLast}
-use Rattle.bookfit.specs.Rows.{TicketFits, TicketsFit, RowFits, RowsFit}
+use Rattle.bookfit.specs.Rows.{TicketsFit, RowFits, RowsFit}
 use Rattle.bookfit.specs.Against.{Unopposed}
 use Rattle.bookfit.specs.Keys.{less-key, key-less}
 use Rattle.bookfit.specs.Bridge.{unopposed-exchange, exchange-unopposed, index-tested, tested-fits, tested-joined, tested-one-last}
@@ -131,14 +127,14 @@ module _ (C D : List ℕ) (n : ℕ) (F T : List ℕ) (k : ℕ) (K X N : List ℕ
       let tested = whole-tested (yard-rules M) (W .whole) in
       record {
         sound = record {
-        few = omega (arith, W .few);
-        ticket-from = W .ticket-from;
-        ticket-to = W .ticket-to;
-        rise = R;
-        tickets = record { each = λ i h. let r = rw (row-in K X N count i h) at (W .ranges i (omega arith)) in record { from = r .ticket-from; to = r .ticket-to } };
-        fits = record { each = λ i h. yard-fits O (tested-fits K X N count P (yardIn C D n F T k) R tested .each i h) };
-        joined = tested-joined K X N count P (yardIn C D n F T k) R tested;
-        one-last = tested-one-last K X N count P (yardIn C D n F T k) R tested;
+          few = omega (arith, W .few);
+          ticket-from = W .ticket-from;
+          ticket-to = W .ticket-to;
+          rise = R;
+          tickets = record { each = λ i h. let r = rw (row-in K X N count i h) at (W .ranges i (omega arith)) in record { from = r .ticket-from; to = r .ticket-to } };
+          fits = record { each = λ i h. yard-fits O (tested-fits K X N count P (yardIn C D n F T k) R tested .each i h) };
+          joined = tested-joined K X N count P (yardIn C D n F T k) R tested;
+          one-last = tested-one-last K X N count P (yardIn C D n F T k) R tested;
         };
         room = λ p s h. omega (arith, W .room p s (omega (arith, O .places)), O .caps p h);
         exchange = exchange-unopposed K X N count (W .exchange);

@@ -1,13 +1,12 @@
 -- The order of packed keys as numbers is the order of the rows' keys, and a key is made of its three parts.
-use Prim.Native.Nat.{ℕ, _+_, _*_, _/_, _%_, _≤_, _<_}
-use mathlib.Core.Path.{_≡_, refl, sym, ap, _∙_}
-use mathlib.Core.Logic.{_⊎_, inl, inr, ⊎-elim}
+use Prim.Native.Nat.{ℕ, _≤_, _<_}
+use mathlib.Core.Path.{_≡_, sym, _∙_}
+use mathlib.Core.Logic.{⊎-elim}
 use native.Mathlib.Omega.{arith}
 use Rattle.laws.specs.Order.{lt-or-ge}
-use Rattle.rules.specs.declared.Row.{Row}
-use Rattle.rules.specs.Rows.{Key, rowKey, Less}
+use Rattle.rules.specs.Rows.{Key, Less}
 use Rattle.rules.specs.Rows.Less.{by-place, by-entry, by-ticket}
-use Rattle.flat.specs.Flat.{placeOf, entryOf, ticketOf, keyOf, rowOf}
+use Rattle.flat.specs.Flat.{placeOf, entryOf, ticketOf, keyOf}
 use Rattle.flat.specs.Laws.{key-parts}
 use Rattle.bookfit.specs.Join.{nextKey}
 

@@ -1,8 +1,8 @@
 -- The loops over a book's rows: the answer of a search for a key, the successors found so far with the marks of those taken,
 -- and the last rows met so far with the marks of their tickets' slots. Each holds at first, is kept by a turn and gives the answer.
-use Prim.Native.Nat.{ℕ, zero, suc, _+_, _-_, _*_, _/_, _%_, _≤_, _<_}
+use Prim.Native.Nat.{ℕ, _+_, _-_, _%_, _≤_, _<_}
 use mathlib.Core.Path.{_≡_, refl, sym, ap, subst, _∙_}
-use mathlib.Core.Logic.{_⊎_, inl, inr, ⊎-elim}
+use mathlib.Core.Logic.{⊎-elim}
 use mathlib.Core.Bool.{Bool, true, false, not}
 use native.Mathlib.Omega.{arith}
 use mathlib.Core.List.{List}
@@ -14,7 +14,7 @@ use Rattle.laws.specs.Order.{lt-or-ge, eq-or-ne}
 use Rattle.laws.specs.Tests.{not-both}
 use Rattle.bookfit.specs.Each.{below-next}
 use Rattle.bookfit.specs.Search.{Split}
-use Rattle.flat.specs.Flat.{placeOf, ticketOf, keyOf}
+use Rattle.flat.specs.Flat.{placeOf, ticketOf}
 use Rattle.bookfit.specs.Join.{nextKey, IsLast, Spot, Found, Joined, OneLast, LastBelow, Clash}
 
 -- a search's answer
@@ -125,10 +125,7 @@ module _ (K X N : ℕ → ℕ) (n m c : ℕ) (tl tl′ : List Bool) (len : lengt
             (getD-set-same tl j true false (omega arith)) (λ i ne. getD-set-other tl j i true false ne),
       )
 
--- no last row of ticket t is below c
-abbrev pub NoLast : (ℕ → ℕ) → (ℕ → ℕ) → ℕ → ℕ → Type 0
-NoLast K N c t = LastBelow K N c t → ⊥
-
+-- last rows of a ticket among the first c
 module _ (K N : ℕ → ℕ) where
   pub no-last-start : (t : ℕ) → LastBelow K N 0 t → ⊥
   no-last-start t e = omega (arith, e .below)

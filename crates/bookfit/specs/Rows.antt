@@ -1,7 +1,7 @@
 -- What is asked of each row by itself, over packed keys: its ticket was issued, and it keeps to the map, to the day,
 -- to its place's duration and to the links. Rows rise where neighbours do.
 use Prim.Native.Nat.{ℕ, _+_, _-_, _≤_, _<_}
-use mathlib.Core.Path.{_≡_, ap, subst}
+use mathlib.Core.Path.{_≡_, ap}
 use mathlib.Core.Logic.{⊎-elim}
 use mathlib.Core.Bool.{Bool, true}
 use mathlib.Core.List.{List}
@@ -10,7 +10,7 @@ use Rattle.laws.specs.Order.{lt-or-ge}
 use Rattle.laws.specs.Lists.{at}
 use Rattle.rules.specs.declared.Row.{Row}
 use Rattle.rules.specs.Limits.{day}
-use Rattle.flat.specs.Flat.{placeOf, ticketOf, rowOf, KeysRise}
+use Rattle.flat.specs.Flat.{ticketOf, rowOf, KeysRise}
 use Rattle.chains.specs.Test.{Last}
 use Rattle.bookfit.specs.Each.{Each}
 

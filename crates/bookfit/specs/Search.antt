@@ -1,6 +1,6 @@
 -- The search among rising keys K a .. K (b - 1) for the first above k. Each turn halves the stretch that it can be in:
 -- what lies before the stretch is at most k, what lies after it is above k.
-use mathlib.Core.Path.{_≡_, refl, sym, ap, _∙_}
+use mathlib.Core.Path.{_≡_, ap}
 use mathlib.Core.Logic.{_⊎_, inl, inr, ⊎-elim}
 use Prim.Native.Nat.{ℕ, zero, suc, _+_, _-_, _*_, _/_, _<_, _≤_}
 use native.Mathlib.Omega.{arith}

@@ -94,12 +94,7 @@ fn is_last(key: u64, next: u8) -> bool
 }
 
 // each of the rows that is not last has its successor, no two the same
-pub fn rows_join(
-    key: &[u64; 1024],
-    exit: &[u32; 1024],
-    next: &[u8; 1024],
-    count: usize,
-) -> bool
+pub fn rows_join(key: &[u64; 1024], exit: &[u32; 1024], next: &[u8; 1024], count: usize) -> bool
     requires { ⌜ count ≤ 1024 ⌝ }
     requires { ⌜ Packed (now key) (now exit) ⌝ }
     requires { ⌜ KeysRise (now key) count ⌝ }
@@ -323,14 +318,7 @@ fn goes_to(exit: u32, next: u8, p: u64, x: u32) -> bool
 }
 
 // one of the rows a .. b goes on to p at x
-fn crossed(
-    exit: &[u32; 1024],
-    next: &[u8; 1024],
-    a: usize,
-    b: usize,
-    p: u64,
-    x: u32,
-) -> bool
+fn crossed(exit: &[u32; 1024], next: &[u8; 1024], a: usize, b: usize, p: u64, x: u32) -> bool
     requires { ⌜ b ≤ 1024 ⌝ }
     ensures { λ r. ⌜ (r ≡ true → Crossed (at (now (exit .entry))) (at (now (next .entry))) a b p x) × (Crossed (at (now (exit .entry))) (at (now (next .entry))) a b p x → r ≡ true) ⌝ }
 {
@@ -486,10 +474,35 @@ pub fn book_fits(
     ensures { λ r. ⌜ BookFits (now (cap .entry)) (now (dur .entry)) n (now (from .entry)) (now (to .entry)) k (now (key .entry)) (now (exit .entry)) (now (next .entry)) count «next_ticket»
         r (now (rows .exit)) (now (start .exit)) (now (end .exit)) (now (place .exit)) (now (first .exit)) ⌝ }
 {
-    if !rows_sound(n, k, dur, from, to, head, chain, count, next_ticket, key, exit, next) {
+    if !rows_sound(
+        n,
+        k,
+        dur,
+        from,
+        to,
+        head,
+        chain,
+        count,
+        next_ticket,
+        key,
+        exit,
+        next,
+    ) {
         return 1281;
     }
-    let w = windows::all_windows(n, count, cap, dur, key, exit, rows, start, end, place, first);
+    let w = windows::all_windows(
+        n,
+        count,
+        cap,
+        dur,
+        key,
+        exit,
+        rows,
+        start,
+        end,
+        place,
+        first,
+    );
     if w == 1281 {
         return 1281;
     }

@@ -1,26 +1,17 @@
-use Prim.Native.Nat.{ℕ, _+_, _-_, _≤_, _<_}
-use mathlib.Core.Path.{_≡_, refl, sym, ap, subst, _∙_}
-use mathlib.Core.Bool.{Bool, true, false}
+-- A book that fails the rows' tests, is overfull somewhere or breaks an exchange is not well formed; one that passes all is, and the windows
+-- found are its free windows. Rows that pass the first tests are what finding windows asks for.
 use native.Mathlib.Omega.{arith}
-use borrow.Author.Tests.{eq-eqb, eqb-true, lt-ltb, ltb-true, not-true, not-false}
+use borrow.Author.Tests.{not-true, not-false}
 use Rattle.laws.specs.Tests.{not-both}
-use Rattle.laws.specs.Lists.{at}
 use Rattle.bookfit.specs.Answer.{few-links, sound-given, sound-next, not-formed, overfull-book, opposed-book, formed-book}
 use Rattle.bookfit.proofs.book_fits.Statement.{statement}
 use Rattle.bookfit.proofs.book_fits.Tie as tie
-use Rattle.bookfit.proofs.book_fits.Reads as reads
-use Rattle.bookfit.proofs.book_fits.Lts as lts
-use Rattle.bookfit.proofs.exchange_kept.Reads as exchange-kept-reads
-use Rattle.bookfit.proofs.rows_sound.Reads as rows-sound-reads
-use Rattle.windows.proofs.all_windows.Reads as all-windows-reads
 
--- src/lib.rt:489:9
 rows-sound-requires : tie.Need-rows-sound-requires
 rows-sound-requires c κs = let s = c in (few-links (s .args .cap .now) (s .args .dur .now) (s .args .n) (s .args .from .now) (s .args .to .now) (s .args .k) (s .pre .0), (s .pre .1 .0, s .pre .1 .1 .0))
 
--- src/lib.rt:490:9
 returns : tie.Need-returns
-returns c = 
+returns c =
     let s = c .before .before in
     let C = s .args .cap .now in
     let D = s .args .dur .now in
@@ -32,9 +23,8 @@ returns c =
     let l = s .pre .1 .1 .1 in
     not-formed C D (s .args .n) F T (s .args .k) K X N (s .args .count) (s .args .next-ticket) (s .pre .0) (s .pre .1 .1 .0) _ _ _ _ _ (λ z. not-both (c .before .rows-sound .ensures .1 (z .sound)) (not-true (c .before .rows-sound .result) (c .if1 .taken))) (l .0) (l .1 .0) (l .1 .1 .0) (l .1 .1 .1 .0) (l .1 .1 .1 .1)
 
--- src/lib.rt:492:9
 all-windows-requires : tie.Need-all-windows-requires
-all-windows-requires c κs = 
+all-windows-requires c κs =
     let s = c .before .before .before .before .before .before .before in
     let C = s .args .cap .now in
     let D = s .args .dur .now in
@@ -45,9 +35,8 @@ all-windows-requires c κs =
     let N = s .args .next .now in
     (sound-given C D (s .args .n) F T (s .args .k) K X N (s .args .count) (s .args .next-ticket) (s .pre .0) (s .pre .1 .1 .0) (c .before .before .before .before .before .before .rows-sound .ensures .0 (not-false (c .before .before .before .before .before .before .rows-sound .result) (c .before .before .before .before .before .if1 .left))), s .pre .1 .1 .1)
 
--- src/lib.rt:494:9
 returns-2 : tie.Need-returns-2
-returns-2 c = 
+returns-2 c =
     let s = c .before .before .before .before .before .before .before .before .before in
     let C = s .args .cap .now in
     let D = s .args .dur .now in
@@ -58,9 +47,8 @@ returns-2 c =
     let N = s .args .next .now in
     overfull-book C D (s .args .n) F T (s .args .k) K X N (s .args .count) (s .args .next-ticket) (s .pre .0) (s .pre .1 .1 .0) _ _ _ _ _ _ (c .before .all-windows .ensures) (c .if2 .taken)
 
--- src/lib.rt:496:9
 exchange-kept-requires : tie.Need-exchange-kept-requires
-exchange-kept-requires c κs = 
+exchange-kept-requires c κs =
     let s = c .before .before .before .before .before .before .before .before .before .before in
     let C = s .args .cap .now in
     let D = s .args .dur .now in
@@ -73,9 +61,8 @@ exchange-kept-requires c κs =
     let all = c .before .before .all-windows .ensures in
     (S .few, (all .rows-by-place (omega (arith, all .bound, c .before .if2 .left)), sound-next C D (s .args .n) F T (s .args .k) K X N (s .args .count) (s .args .next-ticket) (s .pre .0) (s .pre .1 .1 .0) S))
 
--- src/lib.rt:497:9
 returns-3 : tie.Need-returns-3
-returns-3 c = 
+returns-3 c =
     let s = c .before .before .before .before .before .before .before .before .before .before .before .before in
     let C = s .args .cap .now in
     let D = s .args .dur .now in
@@ -86,9 +73,8 @@ returns-3 c =
     let N = s .args .next .now in
     opposed-book C D (s .args .n) F T (s .args .k) K X N (s .args .count) (s .args .next-ticket) (s .pre .0) (s .pre .1 .1 .0) _ _ _ _ _ _ (c .before .before .before .before .all-windows .ensures) (λ u. not-both (c .before .exchange-kept .ensures .1 u) (not-true (c .before .exchange-kept .result) (c .if3 .taken)))
 
--- src/lib.rt:458:1
 returns-4 : tie.Need-returns-4
-returns-4 c = 
+returns-4 c =
     let s = c .before .before .before .before .before .before .before .before .before .before .before .before in
     let C = s .args .cap .now in
     let D = s .args .dur .now in

@@ -1,9 +1,9 @@
-use mathlib.Core.Path.{_≡_, refl, sym, ap, _∙_}
-use Prim.Native.Nat.{ℕ, _+_, _*_, _-_, _/_, _≤_, _<_}
+-- The first key above k is found. The loop keeps the stretch base .. base + left in which it must be; a turn halves it, by a hop that is
+-- 0 or the upper half's start. What is left falls.
+use Prim.Native.Nat.{_+_, _/_}
 use native.Mathlib.Omega.{arith}
-use borrow.Author.Needs.{needs}
 use Rattle.laws.specs.Lists.{at}
-use Rattle.bookfit.specs.Search.{weakly, Split, Among, among-start, among-end, among-hop, le-or-lt}
+use Rattle.bookfit.specs.Search.{weakly, Among, among-start, among-end, among-hop, le-or-lt}
 use Rattle.bookfit.proofs.first_above.Statement.{statement}
 use Rattle.bookfit.proofs.first_above.Tie as tie
 
@@ -47,7 +47,7 @@ loop-again c =
     let s = c .before .before .before .before in
     let l = c .before .before .before .loop in
     among-hop (at (s .args .key .now)) (s .args .k) (s .args .a) (s .args .b) (l .base) (l .left) (weakly (at (s .args .key .now)) (s .args .b) (s .pre .1 .1 .1 .1 .rise)) (l .inv) (omega arith)
-      (c .hop .result) (c .hop .ensures .1) (c .hop .ensures .2) (le-or-lt _ _)
+    (c .hop .result) (c .hop .ensures .1) (c .hop .ensures .2) (le-or-lt _ _)
 
 returns : tie.Need-returns Inv-loop μ-loop
 returns c =

@@ -1,12 +1,12 @@
-use Prim.Native.Nat.{ℕ, _+_, _-_, _≤_, _<_}
-use mathlib.Core.Path.{_≡_, refl, sym, ap, subst, _∙_}
-use mathlib.Core.Bool.{Bool, true, false}
+-- A last row of ticket t is among the first i exactly where the answer is true: none of the first j was one, and the row at j is looked at in
+-- each turn.
+use Prim.Native.Nat.{_-_, _≤_}
+use mathlib.Core.Path.{_≡_, refl}
 use native.Mathlib.Omega.{arith}
-use borrow.Author.Tests.{eq-eqb, eqb-true}
 use Rattle.laws.specs.Tests.{not-both}
 use Rattle.laws.specs.Lists.{at}
-use Rattle.bookfit.specs.Join.{IsLast, OneLast, LastBelow, Clash}
-use Rattle.bookfit.specs.Marks.{no-last-start, no-last-next, one-last-start, one-last-next, clash-breaks}
+use Rattle.bookfit.specs.Join.{LastBelow}
+use Rattle.bookfit.specs.Marks.{no-last-start, no-last-next}
 use borrow.Author.Needs.{needs}
 use Rattle.bookfit.proofs.last_among.Statement.{statement}
 use Rattle.bookfit.proofs.last_among.Tie as tie

@@ -1,14 +1,7 @@
-use Prim.Native.Nat.{ℕ, _+_, _-_, _≤_, _<_}
-use mathlib.Core.Path.{_≡_, refl, sym, ap, subst, _∙_}
-use mathlib.Core.Logic.{⊎-elim}
-use mathlib.Core.Bool.{Bool, true, false}
-use native.Mathlib.Omega.{arith}
-use lib.ListN.{length, getD}
-use borrow.Author.Tests.{eq-eqb, eqb-true, not-true, not-false}
+-- Where the slot is not marked nothing is looked for; where it is, the rows before are looked through.
+use mathlib.Core.Path.{refl}
+use borrow.Author.Tests.{not-true}
 use Rattle.laws.specs.Tests.{not-both}
-use Rattle.laws.specs.Lists.{at}
-use Rattle.bookfit.specs.Join.{IsLast, OneLast, LastBelow, Clash}
-use Rattle.bookfit.specs.Marks.{Seen, seen-start, seen-skip, seen-mark, clash-breaks}
 use borrow.Author.Needs.{needs}
 use Rattle.bookfit.proofs.last_met.Statement.{statement}
 use Rattle.bookfit.proofs.last_met.Tie as tie

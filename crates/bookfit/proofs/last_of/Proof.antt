@@ -1,12 +1,7 @@
-use Prim.Native.Nat.{ℕ, _+_, _-_, _≤_, _<_}
-use mathlib.Core.Path.{_≡_, refl, sym, ap, subst, _∙_}
-use mathlib.Core.Bool.{Bool, true, false}
-use native.Mathlib.Omega.{arith}
+-- A row is the last of ticket t exactly where both tests hold.
+use mathlib.Core.Path.{refl}
 use borrow.Author.Tests.{eq-eqb, eqb-true}
 use Rattle.laws.specs.Tests.{not-both}
-use Rattle.laws.specs.Lists.{at}
-use Rattle.bookfit.specs.Join.{IsLast, OneLast, LastBelow, Clash}
-use Rattle.bookfit.specs.Marks.{no-last-start, no-last-next, one-last-start, one-last-next, clash-breaks}
 use Rattle.bookfit.proofs.last_of.Statement.{statement}
 use Rattle.bookfit.proofs.last_of.Tie as tie
 

@@ -1,3 +1,4 @@
+-- The successor's key is made of next place, exit and ticket; with an exit below 2^24 it is below 2^56.
 use native.Mathlib.Omega.{arith}
 use Rattle.bookfit.specs.Join.{nextKey}
 use borrow.Author.Needs.{needs}

@@ -1,13 +1,14 @@
-use Prim.Native.Nat.{ℕ, _+_, _-_, _≤_, _<_}
-use mathlib.Core.Path.{_≡_, refl, sym, ap, subst, _∙_}
+-- No two last rows have the same ticket exactly where the answer is true. Each last row met so far has marked its ticket's slot, so that an
+-- earlier one of the same ticket can only be where the slot is marked; there the rows before are looked through.
+use Prim.Native.Nat.{_-_, _≤_}
+use mathlib.Core.Path.{_≡_, refl, sym, _∙_}
 use mathlib.Core.Logic.{⊎-elim}
-use mathlib.Core.Bool.{Bool, true, false}
+use mathlib.Core.Bool.{false}
 use native.Mathlib.Omega.{arith}
 use lib.ListN.{length, getD}
-use borrow.Author.Tests.{eq-eqb, eqb-true, not-true, not-false}
+use borrow.Author.Tests.{eq-eqb, eqb-true}
 use Rattle.laws.specs.Tests.{not-both}
 use Rattle.laws.specs.Lists.{at}
-use Rattle.bookfit.specs.Join.{IsLast, OneLast, LastBelow, Clash}
 use Rattle.bookfit.specs.Marks.{Seen, seen-start, seen-skip, seen-mark, clash-breaks}
 use borrow.Author.Needs.{needs}
 use Rattle.bookfit.proofs.one_last_row.Statement.{statement}

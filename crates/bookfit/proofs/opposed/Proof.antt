@@ -1,93 +1,69 @@
-use Prim.Native.Nat.{ℕ, _+_, _-_, _≤_, _<_}
-use mathlib.Core.Path.{_≡_, refl, sym, ap, subst, _∙_}
-use mathlib.Core.Bool.{Bool, true, false}
+-- A row goes against row i exactly where one of its next place's rows does, since all rows of that place stand there together.
+use mathlib.Core.Path.{refl, sym, _∙_}
 use native.Mathlib.Omega.{arith}
-use borrow.Author.Tests.{eq-eqb, eqb-true, lt-ltb, ltb-true, not-true, not-false}
+use borrow.Author.Tests.{eqb-true}
 use Rattle.laws.specs.Tests.{not-both}
 use Rattle.laws.specs.Lists.{at}
 use Rattle.bookfit.specs.Marks.{goes-no}
-use Rattle.bookfit.specs.Against.{Opposed, rows-within, crossed-opposed, opposed-crossed}
+use Rattle.bookfit.specs.Against.{rows-within, crossed-opposed, opposed-crossed}
 use borrow.Author.Needs.{needs}
 use Rattle.bookfit.proofs.opposed.Statement.{statement}
 use Rattle.bookfit.proofs.opposed.Tie as tie
-use Rattle.bookfit.proofs.opposed.Reads as reads
-use Rattle.bookfit.proofs.opposed.Lts as lts
-use Rattle.bookfit.proofs.crossed.Reads as crossed-reads
-use Rattle.bookfit.proofs.is_last.Reads as is-last-reads
-use Rattle.bookfit.proofs.place_index.Reads as place-index-reads
-use Rattle.bookfit.proofs.row_index.Reads as row-index-reads
 
--- src/lib.rt:398:13
 mul-k : tie.Need-mul-k
 mul-k c = search needs
 
--- src/lib.rt:398:13
 element-copy-out-k : tie.Need-element-copy-out-k
 element-copy-out-k c = search needs
 
--- src/lib.rt:399:13
 element-copy-out-q : tie.Need-element-copy-out-q
 element-copy-out-q c = search needs
 
--- src/lib.rt:400:8
 is-last-requires : tie.Need-is-last-requires
 is-last-requires c κs = search needs
 
--- src/lib.rt:401:9
 returns : tie.Need-returns
 returns c = (λ q. absurd (not-both q refl), λ o. absurd (o .goes-on (eqb-true _ _ (sym (c .before .is-last .ensures) ∙ c .if1 .taken))))
 
--- src/lib.rt:403:9
 place-index-requires : tie.Need-place-index-requires
 place-index-requires c κs = search needs
 
--- src/lib.rt:404:23
 mul-row-index : tie.Need-mul-row-index
 mul-row-index c = search needs
 
--- src/lib.rt:404:23
 element-copy-out-row-index : tie.Need-element-copy-out-row-index
 element-copy-out-row-index c = search needs
 
--- src/lib.rt:404:9
 row-index-requires : tie.Need-row-index-requires
 row-index-requires c κs = search needs
 
--- src/lib.rt:405:28
 add-row-index : tie.Need-add-row-index
 add-row-index c = search needs
 
--- src/lib.rt:405:23
 mul-row-index-2 : tie.Need-mul-row-index-2
 mul-row-index-2 c = search needs
 
--- src/lib.rt:405:23
 element-copy-out-row-index-2 : tie.Need-element-copy-out-row-index-2
 element-copy-out-row-index-2 c = search needs
 
--- src/lib.rt:405:9
 row-index-requires-2 : tie.Need-row-index-requires-2
 row-index-requires-2 c κs = search needs
 
--- src/lib.rt:406:52
 mul-crossed : tie.Need-mul-crossed
 mul-crossed c = search needs
 
--- src/lib.rt:406:52
 element-copy-out-crossed : tie.Need-element-copy-out-crossed
 element-copy-out-crossed c = search needs
 
--- src/lib.rt:406:5
 crossed-requires : tie.Need-crossed-requires
-crossed-requires c κs = 
+crossed-requires c κs =
     let s = c .before .before .before .before .before .before .before .before .before .before in
-    let g = goes-no _ _ _ (c .before .before .before .before .before .before .before .is-last .ensures) (c .before .before .before .before .before .before .if1 .left) in
-    omega (arith, rows-within (at (s .args .key .now)) (s .pre .1 .1 .0) (at (s .args .exit .now)) (at (s .args .next .now)) (s .args .i) (c .before .before .before .before .before .place-index .result) (c .before .before .before .row-index .result) (c .before .row-index2 .result)
-    (c .before .before .before .before .before .place-index .ensures .0) (c .before .before .before .row-index .ensures) (c .before .row-index2 .ensures) (s .pre .1 .1 .1 g))
+    let within = rows-within (at (s .args .key .now)) (s .pre .1 .1 .0) (at (s .args .exit .now)) (at (s .args .next .now)) (s .args .i) (c .before .before .before .before .before .place-index .result) (c .before .before .before .row-index .result) (c .before .row-index2 .result)
+    (c .before .before .before .before .before .place-index .ensures .0) (c .before .before .before .row-index .ensures) (c .before .row-index2 .ensures) (s .pre .1 .1 .1 (goes-no _ _ _ (c .before .before .before .before .before .before .before .is-last .ensures) (c .before .before .before .before .before .before .if1 .left))) in
+    omega arith
 
--- src/lib.rt:383:1
 returns-2 : tie.Need-returns-2
-returns-2 c = 
+returns-2 c =
     let s = c .before .before .before .before .before .before .before .before .before .before .before in
     let g = goes-no _ _ _ (c .before .before .before .before .before .before .before .before .is-last .ensures) (c .before .before .before .before .before .before .before .if1 .left) in
     let h = c .before .before .before .before .before .before .place-index in

@@ -1,43 +1,30 @@
-use Prim.Native.Nat.{ℕ, _+_, _-_, _≤_, _<_}
-use mathlib.Core.Path.{_≡_, refl, sym, ap, subst, _∙_}
-use mathlib.Core.Bool.{Bool, true, false}
+-- Each test is one sentence of what a row must keep; the last row's exit is exact, any other row goes on along a link.
+use mathlib.Core.Path.{refl, sym, _∙_}
 use native.Mathlib.Omega.{arith}
-use borrow.Author.Tests.{eq-eqb, eqb-true, lt-ltb, ltb-true, not-true, not-false}
+use borrow.Author.Tests.{eq-eqb, eqb-true}
 use Rattle.laws.specs.Tests.{not-both}
-use Rattle.laws.specs.Lists.{at}
 use borrow.Author.Needs.{needs}
 use Rattle.bookfit.proofs.row_fits.Statement.{statement}
 use Rattle.bookfit.proofs.row_fits.Tie as tie
-use Rattle.bookfit.proofs.row_fits.Reads as reads
-use Rattle.bookfit.proofs.row_fits.Lts as lts
-use Rattle.bookfit.proofs.least_exit.Reads as least-exit-reads
-use Rattle.mapfit.proofs.linked_by.Reads as linked-by-reads
 
--- src/lib.rt:288:33
 mul-least-exit : tie.Need-mul-least-exit
 mul-least-exit c = search needs
 
--- src/lib.rt:288:33
 element-copy-out-least-exit : tie.Need-element-copy-out-least-exit
 element-copy-out-least-exit c = search needs
 
--- src/lib.rt:288:9
 least-exit-requires : tie.Need-least-exit-requires
 least-exit-requires c κs = search needs
 
--- src/lib.rt:290:9
 returns : tie.Need-returns
 returns c = (λ q. absurd (not-both q refl), λ F. absurd (omega (arith, F .on-map)))
 
--- src/lib.rt:293:9
 returns-2 : tie.Need-returns-2
 returns-2 c = (λ q. absurd (not-both q refl), λ F. absurd (omega (arith, F .in-day)))
 
--- src/lib.rt:296:9
 returns-3 : tie.Need-returns-3
 returns-3 c = (λ q. absurd (not-both q refl), λ F. absurd (omega (arith, F .lasts, c .before .before .before .least-exit .ensures)))
 
--- src/lib.rt:299:9
 returns-4 : tie.Need-returns-4
 returns-4 c = (
   λ t. record {
@@ -50,11 +37,9 @@ returns-4 c = (
   λ F. eq-eqb _ _ (F .exact (sym (c .if4 .taken)) ∙ sym (c .before .before .before .before .least-exit .ensures)),
 )
 
--- src/lib.rt:301:5
 linked-by-requires : tie.Need-linked-by-requires
 linked-by-requires c κs = search needs
 
--- src/lib.rt:267:1
 returns-5 : tie.Need-returns-5
 returns-5 c = (
   λ t. record {

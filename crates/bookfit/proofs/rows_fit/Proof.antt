@@ -1,20 +1,17 @@
-use Prim.Native.Nat.{ℕ, _+_, _-_, _≤_, _<_}
-use mathlib.Core.Path.{_≡_, refl, sym, ap, subst, _∙_}
-use mathlib.Core.Bool.{Bool, true, false}
+-- Each row fits exactly where the answer is true: the first i rows do.
+use Prim.Native.Nat.{_-_}
+use mathlib.Core.Path.{refl}
 use native.Mathlib.Omega.{arith}
-use borrow.Author.Tests.{eq-eqb, eqb-true, lt-ltb, ltb-true, not-true, not-false}
+use borrow.Author.Tests.{not-true, not-false}
 use Rattle.laws.specs.Tests.{not-both}
 use Rattle.laws.specs.Lists.{at}
 use Rattle.rules.specs.Map.{linked}
 use Rattle.flat.specs.Flat.{linksIn}
-use Rattle.bookfit.specs.Each.{Each, each-start, each-next, each-to}
-use Rattle.bookfit.specs.Rows.{RowFits, RowsFit}
+use Rattle.bookfit.specs.Each.{each-start, each-next, each-to}
+use Rattle.bookfit.specs.Rows.{RowsFit}
 use borrow.Author.Needs.{needs}
 use Rattle.bookfit.proofs.rows_fit.Statement.{statement}
 use Rattle.bookfit.proofs.rows_fit.Tie as tie
-use Rattle.bookfit.proofs.rows_fit.Reads as reads
-use Rattle.bookfit.proofs.rows_fit.Lts as lts
-use Rattle.bookfit.proofs.row_fits.Reads as row-fits-reads
 
 abbrev Inv-loop : tie.InvT-loop
 Inv-loop n k dur from to head chain key exit next count i₀ i = RowsFit n (at dur) (linked (linksIn from to k)) (at key) (at exit) (at next) i
@@ -22,51 +19,39 @@ Inv-loop n k dur from to head chain key exit next count i₀ i = RowsFit n (at d
 abbrev μ-loop : tie.MeasureT-loop
 μ-loop n k dur from to head chain key exit next count i₀ i = count - i
 
--- src/lib.rt:319:5
 loop-holds : tie.Need-loop-holds Inv-loop μ-loop
 loop-holds c = each-start _
 
--- src/lib.rt:320:56
 mul-row-fits : tie.Need-mul-row-fits Inv-loop μ-loop
 mul-row-fits c = search needs
 
--- src/lib.rt:320:56
 element-copy-out-row-fits : tie.Need-element-copy-out-row-fits Inv-loop μ-loop
 element-copy-out-row-fits c = search needs
 
--- src/lib.rt:320:64
 mul-row-fits-2 : tie.Need-mul-row-fits-2 Inv-loop μ-loop
 mul-row-fits-2 c = search needs
 
--- src/lib.rt:320:64
 element-copy-out-row-fits-2 : tie.Need-element-copy-out-row-fits-2 Inv-loop μ-loop
 element-copy-out-row-fits-2 c = search needs
 
--- src/lib.rt:320:73
 element-copy-out-row-fits-3 : tie.Need-element-copy-out-row-fits-3 Inv-loop μ-loop
 element-copy-out-row-fits-3 c = search needs
 
--- src/lib.rt:320:13
 row-fits-requires : tie.Need-row-fits-requires Inv-loop μ-loop
 row-fits-requires c κs = let s = c .before .before .before .before .before in (s .pre .1 .0, (s .pre .1 .1 .0, s .pre .1 .1 .1 (c .before .before .before .before .loop .i)))
 
--- src/lib.rt:321:13
 returns : tie.Need-returns Inv-loop μ-loop
 returns c = (λ q. absurd (not-both q refl), λ A. absurd (not-both (c .before .row-fits .ensures .1 (A .each (c .before .before .before .before .before .before .loop .i) (c .before .before .before .before .before .loop-test .taken))) (not-true (c .before .row-fits .result) (c .if1 .taken))))
 
--- src/lib.rt:323:9
 add-i : tie.Need-add-i Inv-loop μ-loop
 add-i c = search needs
 
--- src/lib.rt:319:5
 loop-less : tie.Need-loop-less Inv-loop μ-loop
 loop-less c = search needs
 
--- src/lib.rt:319:5
 loop-again : tie.Need-loop-again Inv-loop μ-loop
 loop-again c = each-next _ _ (c .before .before .before .before .before .before .loop .inv) (c .before .row-fits .ensures .0 (not-false (c .before .row-fits .result) (c .if1 .left)))
 
--- src/lib.rt:298:1
 returns-2 : tie.Need-returns-2 Inv-loop μ-loop
 returns-2 c = (λ _. each-to _ _ _ (omega arith) (c .before .loop .inv), λ _. refl)
 

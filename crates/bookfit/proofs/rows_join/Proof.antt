@@ -1,14 +1,14 @@
-use Prim.Native.Nat.{ℕ, _+_, _-_, _≤_, _<_}
-use mathlib.Core.Path.{_≡_, refl, sym, ap, subst, _∙_}
+-- Each row that is not last has its successor and no two the same, exactly where the answer is true. The successors found so far are those
+-- marked: a row without one, or with a marked one, is a row that breaks the rule.
+use Prim.Native.Nat.{_-_, _≤_}
+use mathlib.Core.Path.{_≡_, refl}
 use mathlib.Core.Logic.{⊎-elim}
-use mathlib.Core.Bool.{Bool, true, false}
+use mathlib.Core.Bool.{false}
 use native.Mathlib.Omega.{arith}
-use lib.ListN.{length, getD, replicate, getD-replicate, set, length-set}
+use lib.ListN.{length, getD, getD-replicate}
 use Rattle.laws.specs.Tests.{not-both}
-use lib.Seq.{getD-set-same, getD-set-other}
 use Rattle.laws.specs.Lists.{at}
-use Rattle.bookfit.specs.Join.{nextKey, IsLast, Spot, Found, Joined}
-use Rattle.bookfit.specs.Marks.{Marked, marks-start, goes-by, last-by, spot-as, turn-take, turn-skip, marks-skip, marks-take, no-successor, taken-twice}
+use Rattle.bookfit.specs.Marks.{Marked, marks-start, goes-by, last-by, spot-as, turn-take, turn-skip, no-successor, taken-twice}
 use borrow.Author.Needs.{needs}
 use Rattle.bookfit.proofs.rows_join.Statement.{statement}
 use Rattle.bookfit.proofs.rows_join.Tie as tie

@@ -1,70 +1,48 @@
-use Prim.Native.Nat.{ℕ, _+_, _-_, _≤_, _<_}
-use mathlib.Core.Path.{_≡_, refl, sym, ap, subst, _∙_}
-use mathlib.Core.Bool.{Bool, true, false}
+-- The tests one after the other: where one fails a field of `Sound` is refuted, where all hold they are its fields.
+use mathlib.Core.Path.{refl}
 use native.Mathlib.Omega.{arith}
-use borrow.Author.Tests.{eq-eqb, eqb-true, lt-ltb, ltb-true, not-true, not-false}
+use borrow.Author.Tests.{not-true, not-false}
 use Rattle.laws.specs.Tests.{not-both}
-use Rattle.laws.specs.Lists.{at}
 use borrow.Author.Needs.{needs}
 use Rattle.bookfit.proofs.rows_sound.Statement.{statement}
 use Rattle.bookfit.proofs.rows_sound.Tie as tie
-use Rattle.bookfit.proofs.rows_sound.Reads as reads
-use Rattle.bookfit.proofs.rows_sound.Lts as lts
-use Rattle.bookfit.proofs.one_last_row.Reads as one-last-row-reads
-use Rattle.bookfit.proofs.rising.Reads as rising-reads
-use Rattle.bookfit.proofs.rows_fit.Reads as rows-fit-reads
-use Rattle.bookfit.proofs.rows_join.Reads as rows-join-reads
-use Rattle.bookfit.proofs.tickets_fit.Reads as tickets-fit-reads
 
--- src/lib.rt:433:9
 returns : tie.Need-returns
 returns c = (λ q. absurd (not-both q refl), λ S. absurd (omega (arith, S .few)))
 
--- src/lib.rt:436:9
 returns-2 : tie.Need-returns-2
 returns-2 c = (λ q. absurd (not-both q refl), λ S. absurd (omega (arith, S .ticket-from)))
 
--- src/lib.rt:439:9
 returns-3 : tie.Need-returns-3
 returns-3 c = (λ q. absurd (not-both q refl), λ S. absurd (omega (arith, S .ticket-to)))
 
--- src/lib.rt:441:9
 rising-requires : tie.Need-rising-requires
 rising-requires c κs = search needs
 
--- src/lib.rt:442:9
 returns-4 : tie.Need-returns-4
 returns-4 c = (λ q. absurd (not-both q refl), λ S. absurd (not-both (c .before .rising .ensures .1 (S .rise)) (not-true (c .before .rising .result) (c .if4 .taken))))
 
--- src/lib.rt:444:9
 tickets-fit-requires : tie.Need-tickets-fit-requires
 tickets-fit-requires c κs = search needs
 
--- src/lib.rt:445:9
 returns-5 : tie.Need-returns-5
 returns-5 c = (λ q. absurd (not-both q refl), λ S. absurd (not-both (c .before .tickets-fit .ensures .1 (S .tickets)) (not-true (c .before .tickets-fit .result) (c .if5 .taken))))
 
--- src/lib.rt:447:9
 rows-fit-requires : tie.Need-rows-fit-requires
 rows-fit-requires c κs = let s = c .before .before .before .before .before .before .before in (omega arith, (s .pre .0, (s .pre .1 .0, s .pre .1 .1 .keys)))
 
--- src/lib.rt:448:9
 returns-6 : tie.Need-returns-6
 returns-6 c = (λ q. absurd (not-both q refl), λ S. absurd (not-both (c .before .rows-fit .ensures .1 (S .fits)) (not-true (c .before .rows-fit .result) (c .if6 .taken))))
 
--- src/lib.rt:450:9
 rows-join-requires : tie.Need-rows-join-requires
 rows-join-requires c κs = let s = c .before .before .before .before .before .before .before .before .before in (omega arith, (s .pre .1 .1, c .before .before .before .before .before .rising .ensures .0 (not-false (c .before .before .before .before .before .rising .result) (c .before .before .before .before .if4 .left))))
 
--- src/lib.rt:451:9
 returns-7 : tie.Need-returns-7
 returns-7 c = (λ q. absurd (not-both q refl), λ S. absurd (not-both (c .before .rows-join .ensures .1 (S .joined)) (not-true (c .before .rows-join .result) (c .if7 .taken))))
 
--- src/lib.rt:453:5
 one-last-row-requires : tie.Need-one-last-row-requires
 one-last-row-requires c κs = search needs
 
--- src/lib.rt:412:1
 returns-8 : tie.Need-returns-8
 returns-8 c = (
   λ q. record {

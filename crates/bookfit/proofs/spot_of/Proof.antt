@@ -1,5 +1,5 @@
+-- A key stands just before the first key above it, or nowhere, since keys rise.
 use native.Mathlib.Omega.{arith}
-use mathlib.Core.Path.{_≡_, sym}
 use Rattle.laws.specs.Lists.{at}
 use Rattle.bookfit.specs.Search.{weakly}
 use Rattle.bookfit.specs.Marks.{spot-first, spot-other, spot-found}
