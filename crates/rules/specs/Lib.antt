@@ -7,3 +7,4 @@ pub mod Page
 pub mod Window
 pub mod Chosen
 pub mod Answer
+pub mod Portal

@@ -156,15 +156,17 @@ pub record OpenFrom (E : List ℕ) (a b x lo hi : ℕ) : Type 0 where
   pub up : lo ≤ hi
   pub to : hi ≤ b
   pub past : (i : ℕ) → a ≤ i → i < lo → at E i < x
+  pub rest : (i : ℕ) → hi ≤ i → i < b → x ≤ at E i
 
 pub open-start : (E : List ℕ) (a b x : ℕ) → a ≤ b → OpenFrom E a b x a b
-open-start E a b x h = record { from = omega arith; up = h; to = omega arith; past = λ i k l. absurd (omega arith) }
+open-start E a b x h = record { from = omega arith; up = h; to = omega arith; past = λ i k l. absurd (omega arith); rest = λ i k l. absurd (omega arith) }
 
-pub open-more : {E : List ℕ} {a b x lo hi mid : ℕ} → ((i j : ℕ) → a ≤ i → i ≤ j → j < b → at E i ≤ at E j) → OpenFrom E a b x lo hi → lo ≤ mid → mid < hi → at E mid < x → OpenFrom E a b x (mid + 1) hi
-open-more {mid = mid} mono O l h c = record { from = omega (arith, O .from); up = omega arith; to = O .to; past = λ i k m. omega (arith, mono i mid k (omega arith) (omega (arith, O .to))) }
+module _ {E : List ℕ} {a b x lo hi mid : ℕ} (rise : (i j : ℕ) → a ≤ i → i ≤ j → j < b → at E i ≤ at E j) (O : OpenFrom E a b x lo hi) (l : lo ≤ mid) (h : mid < hi) where
+  pub open-more : at E mid < x → OpenFrom E a b x (mid + 1) hi
+  open-more c = record { from = omega (arith, O .from); up = omega arith; to = O .to; past = λ i k m. omega (arith, rise i mid k (omega arith) (omega (arith, O .to))); rest = O .rest }
 
-pub open-less : {E : List ℕ} {a b x lo hi mid : ℕ} → OpenFrom E a b x lo hi → lo ≤ mid → mid < hi → OpenFrom E a b x lo mid
-open-less O l h = record { from = O .from; up = l; to = omega (arith, O .to); past = O .past }
+  pub open-less : x ≤ at E mid → OpenFrom E a b x lo mid
+  open-less c = record { from = O .from; up = l; to = omega (arith, O .to); past = O .past; rest = λ i k m. omega (arith, rise mid i (omega (arith, O .from)) k m) }
 
 -- ends rise along a place's windows
 pub ends-rise : {S E : List ℕ} {a b d : ℕ} → Row1 S E a b d → (i j : ℕ) → a ≤ i → i ≤ j → j < b → at E i ≤ at E j
@@ -178,3 +180,29 @@ pub record Relaxing (rows : List Row) (q p soonest leave d : ℕ) (S E : List �
   pub offered : OfferedTo rows q p soonest leave d S E a b w lab₀ op₀ bef₀ v lab op bef
   pub labels : Labels lab op bef
   pub blocks : Blocks op le
+
+-- ---- the window that a plan begins in
+
+pub record BeginsAt (S E : List ℕ) (a b s d r : ℕ) : Type 0 where
+  pub within : r ≤ 1280
+  pub from : r < 1280 → a ≤ r
+  pub to : r < 1280 → r < b
+  pub begun : r < 1280 → at S r ≤ s
+  pub fits : r < 1280 → s + d ≤ at E r
+  pub none : r ≡ 1280 → (v : ℕ) → a ≤ v → v < b → at S v ≤ s → s + d ≤ at E v → ⊥
+
+pub begins-none : {S E : List ℕ} {a b s d : ℕ} → ((v : ℕ) → a ≤ v → v < b → at S v ≤ s → s + d ≤ at E v → ⊥) → BeginsAt S E a b s d 1280
+begins-none f = record { within = omega arith; from = λ h. absurd (omega arith); to = λ h. absurd (omega arith); begun = λ h. absurd (omega arith); fits = λ h. absurd (omega arith); none = λ _. f }
+
+module _ {S E : List ℕ} {a b s d r : ℕ} (R : Row1 S E a b d) (O : OpenFrom E a b (s + d) r r) where
+  pub begins-past : b ≤ r → BeginsAt S E a b s d 1280
+  begins-past h = begins-none (λ v k l m n. omega (arith, O .past v k (omega arith)))
+
+  pub begins-late : r < b → s < at S r → BeginsAt S E a b s d 1280
+  begins-late h c = begins-none (λ v k l m n.
+      ⊎-elim (λ (q : v < r). omega (arith, O .past v k q))
+      (λ (q : r ≤ v). ⊎-elim (λ (z : r < v). omega (arith, R .rise r v (O .from) z l, R .long r (O .from) h)) (λ (z : v ≤ r). let e : r ≡ v = omega arith in omega (arith, ap (at S) e)) (lt-or-ge r v))
+      (lt-or-ge v r))
+
+  pub begins-here : r < b → b ≤ 1280 → at S r ≤ s → BeginsAt S E a b s d r
+  begins-here h k c = record { within = omega arith; from = λ _. O .from; to = λ _. h; begun = λ _. c; fits = λ _. O .rest r (omega arith) h; none = λ e. absurd (omega arith) }

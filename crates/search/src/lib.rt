@@ -5,11 +5,14 @@ ghost use Prim.Native.Nat.{ℕ, _+_, _-_, _*_, _≤_, _<_, min, max};
 ghost use lib.ListN.{length};
 ghost use Rattle.laws.specs.Lists.{at};
 ghost use Rattle.rules.specs.Rows.{crosses};
-ghost use Rattle.flat.specs.Flat.{rowsIn, placeOf};
+ghost use Rattle.flat.specs.Flat.{rowsIn, placeOf, yardIn};
 ghost use Rattle.settle.specs.Blocks.{Blocks};
 ghost use Rattle.search.specs.Entries.{FirstClear};
-ghost use Rattle.search.specs.Offers.{Row1, Labels, Tried, OfferedTo, OpenFrom};
-ghost use Rattle.search.specs.Relax.{Ground, Relaxed};
+ghost use Rattle.search.specs.Offers.{Row1, Labels, Tried, OfferedTo, OpenFrom, BeginsAt};
+ghost use Rattle.settle.specs.Search.{Answer, Rooted};
+ghost use Rattle.search.specs.Relax.{Ground, Relaxed, nextBy};
+ghost use Rattle.search.specs.Lanes.{Lanes, atDest};
+ghost use Rattle.search.specs.Trail.{Trailed};
 
 fn wide(x: u8) -> usize
     ensures { λ r. ⌜ (r ≡ x) × (r < 256) ⌝ }
@@ -305,4 +308,99 @@ fn relax(
         relax_link(dur, first, start, end, key, exit, next, n, q, p, soonest, leave, w, label, live, least, before);
         cur = broad(chain[j]);
     }
+}
+
+// The window of the destination of least entry, of those the first, with labels and windows before; 1,280 where none is reached.
+pub fn search(
+    places: usize,
+    links: usize,
+    windows: usize,
+    cap: &[u8; 256],
+    dur: &[u32; 256],
+    from: &[u8; 1024],
+    to: &[u8; 1024],
+    head: &[u16; 256],
+    chain: &[u16; 1024],
+    place: &[u8; 1280],
+    start: &[u32; 1280],
+    end: &[u32; 1280],
+    first: &[u16; 257],
+    key: &[u64; 1024],
+    exit: &[u32; 1024],
+    next: &[u8; 1024],
+    n: usize,
+    src: usize,
+    s: u32,
+    dest: usize,
+    label: &mut [u32; 1280],
+    before: &mut [u16; 1280],
+) -> usize
+    requires { ⌜ Lanes (now cap) (now dur) (now from) (now to) (now head) (now chain) places links (rowsIn (now key) (now exit) (now next) n) n (now place) (now start) (now end) (now first) windows ⌝ }
+    requires { ⌜ (src < windows) × (s < 86401) ⌝ }
+    requires { ⌜ ((v : ℕ) → v < 1280 → at (now label) v ≡ 86401) ⌝ }
+    requires { ⌜ at (now before) src ≡ 0 ⌝ }
+    requires { ⌜ (length (now label) ≡ 1280) × (length (now before) ≡ 1280) ⌝ }
+    ensures { λ r. ⌜ Answer windows (nextBy (yardIn (now (cap .entry)) (now (dur .entry)) places (now (from .entry)) (now (to .entry)) links) (rowsIn (now (key .entry)) (now (exit .entry)) (now (next .entry)) n) (now (place .entry)) (now (start .entry)) (now (end .entry))) (atDest (now (place .entry)) dest) src s (now (label .exit)) (now (before .exit)) r ⌝ }
+{
+    let blocks = (windows + 31) / 32;
+    let mut live = [86401u32; 1280];
+    let mut least = [86401u32; 40];
+    label[src] = s;
+    live[src] = s;
+    least[src / 32] = s;
+    loop {
+        let w = settle::pick(&live, &least, blocks);
+        if w >= 1280 {
+            return 1280;
+        }
+        if wide(place[w]) == dest {
+            return w;
+        }
+        settle::close(&mut live, &mut least, w);
+        relax(places, links, windows, dur, from, to, head, chain, place, start, end, first, key, exit, next, n, w, label, &mut live, &mut least, before);
+    }
+}
+
+// The window of a .. b that may be entered at s for d seconds, 1,280 where there is none.
+pub fn begin_at(
+    start: &[u32; 1280],
+    end: &[u32; 1280],
+    a: usize,
+    b: usize,
+    s: u32,
+    d: u32,
+) -> usize
+    requires { ⌜ (a ≤ b) × (b ≤ 1280) × (s ≤ 86400) × (d ≤ 3600) ⌝ }
+    requires { ⌜ Row1 (now start) (now end) a b d ⌝ }
+    ensures { λ r. ⌜ BeginsAt (now (start .entry)) (now (end .entry)) a b s d r ⌝ }
+{
+    let w = first_open(end, a, b, s + d);
+    if w >= b {
+        return 1280;
+    }
+    if s < start[w] {
+        return 1280;
+    }
+    w
+}
+
+// The windows that lead to w, itself the last, in travel order; how many.
+pub fn trail(
+    before: &[u16; 1280],
+    label: &[u32; 1280],
+    w: usize,
+    path: &mut [u16; 1280],
+) -> usize
+    requires { ⌜ Rooted (now label) (now before) w ⌝ }
+    requires { ⌜ length (now path) ≡ 1280 ⌝ }
+    ensures { λ r. ⌜ Trailed (now (label .entry)) (now (before .entry)) w r (now (path .exit)) ⌝ }
+{
+    let v = broad(before[w]);
+    if v < 1 {
+        path[0] = w as u16;
+        return 1;
+    }
+    let k = trail(before, label, v - 1, path);
+    path[k] = w as u16;
+    k + 1
 }
