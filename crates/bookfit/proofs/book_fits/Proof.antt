@@ -8,7 +8,7 @@ use Rattle.bookfit.proofs.book_fits.Statement.{statement}
 use Rattle.bookfit.proofs.book_fits.Tie as tie
 
 rows-sound-requires : tie.Need-rows-sound-requires
-rows-sound-requires c κs = let s = c in (few-links (s .args .cap .now) (s .args .dur .now) (s .args .n) (s .args .from .now) (s .args .to .now) (s .args .k) (s .pre .0), (s .pre .1 .0, s .pre .1 .1 .0))
+rows-sound-requires c κs = (few-links (c .args .cap .now) (c .args .dur .now) (c .args .n) (c .args .from .now) (c .args .to .now) (c .args .k) (c .pre .0), (c .pre .1 .0, c .pre .1 .1 .0))
 
 returns : tie.Need-returns
 returns c =

@@ -34,7 +34,7 @@ element-copy-out-if1-2 : tie.Need-element-copy-out-if1-2 Inv-loop μ-loop
 element-copy-out-if1-2 c = search needs
 
 returns : tie.Need-returns Inv-loop μ-loop
-returns c = (λ q. absurd (not-both q refl), λ R. absurd (rise-breaks _ (c .before .before .before .before .loop .i) _ (omega arith) (omega arith) (c .if1 .taken) R))
+returns c = (λ q. absurd (not-both q refl), λ R. absurd (rise-breaks _ (c .before .before .before .before .loop .i) _ (omega arith) (omega arith) (omega (arith, c .if1 .taken)) R))
 
 add-i : tie.Need-add-i Inv-loop μ-loop
 add-i c = search needs
