@@ -1,9 +1,9 @@
 // Whether rows given as arrays of numbers are a well-formed book: each test looks through the arrays once, or only where it must.
 // Keys are packed, so that the order of keys is the order of numbers.
 ghost use mathlib.Core.Path.{_≡_};
-ghost use mathlib.Core.Bool.{Bool, true, false};
-ghost use Prim.Native.Nat.{ℕ, _+_, _*_, _≤_, _<_, _/_, _%_};
-ghost use lib.ListN.{length, getD};
+ghost use mathlib.Core.Bool.{true};
+ghost use Prim.Native.Nat.{ℕ, _+_, _≤_, _<_, _%_};
+ghost use lib.ListN.{length};
 ghost use lib.Dec.{eqb};
 ghost use Rattle.laws.specs.Lists.{at};
 ghost use Rattle.rules.specs.Map.{linked, MapRules};
