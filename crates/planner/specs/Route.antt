@@ -1,6 +1,6 @@
 -- The answer of a search as a path of windows, and the rows of a path.
 use Prim.Native.Nat.{ℕ, zero, suc, _+_, _-_, _≤_, _<_}
-use mathlib.Core.Path.{_≡_, refl, sym, ap, subst, _∙_}
+use mathlib.Core.Path.{_≡_, refl, sym, ap, subst, subst₂, _∙_}
 use mathlib.Core.Logic.{_⊎_, inl, inr, ⊎-elim}
 use mathlib.Core.List.{List, [], _∷_}
 use native.Mathlib.Omega.{arith}
@@ -9,10 +9,16 @@ use lib.Seq.{getD-take, length-take-le}
 use Rattle.laws.specs.Lists.{at}
 use Rattle.rules.specs.declared.Row.{Row}
 use Rattle.rules.specs.Map.{Yard}
-use Rattle.rules.specs.Rows.{rowAt, noRow}
 use Rattle.rules.specs.Plan.{Stay, Permitted, runRows, stayRow, arrival}
 use Rattle.rules.specs.Chosen.{Chosen}
-use Rattle.planner.specs.Choice.{planOf, stayOf, OnDay}
+use Rattle.rules.specs.Rows.{load, rowAt, noRow}
+use Rattle.flat.specs.Flat.{yardIn}
+use Rattle.settle.specs.Search.{Answer}
+use Rattle.search.specs.Offers.{BeginsAt, Row1}
+use Rattle.search.specs.Relax.{nextBy}
+use Rattle.search.specs.Lanes.{Lanes, atDest}
+use Rattle.search.specs.Trail.{Trailed, trailed-fits}
+use Rattle.planner.specs.Choice.{planOf, stayOf, OnDay, found-chosen, found-good}
 
 -- r windows of path are the chosen plan; 0 where no plan is permitted
 pub record Routed (Y : Yard) (rows : List Row) (start dest s m : ℕ) (D P lab path : List ℕ) (r : ℕ) : Type 0 where
@@ -21,6 +27,35 @@ pub record Routed (Y : Yard) (rows : List Row) (start dest s m : ℕ) (D P lab p
   pub chosen : 0 < r → Chosen Y rows start dest s (planOf D P lab (take r path))
   pub on-day : OnDay m lab (take r path)
   pub long : length path ≡ 1280
+
+pub begins-as : {S E : List ℕ} {a b a′ b′ s d r : ℕ} → a ≡ a′ → b ≡ b′ → BeginsAt S E a b s d r → BeginsAt S E a′ b′ s d r
+begins-as {S} {E} {s = s} {d = d} {r = r} e f B = subst₂ (λ x y. BeginsAt S E x y s d r) e f B
+
+pub row-as : {S E : List ℕ} {a b a′ b′ d : ℕ} → a ≡ a′ → b ≡ b′ → Row1 S E a b d → Row1 S E a′ b′ d
+row-as {S} {E} {d = d} e f R = subst₂ (λ x y. Row1 S E x y d) e f R
+
+pub routed-none : {Y : Yard} {rows : List Row} {start dest s m : ℕ} {D P lab path : List ℕ} → ((plan : List Stay) → Permitted Y rows start dest s plan → ⊥) → length path ≡ 1280
+    → Routed Y rows start dest s m D P lab path 0
+routed-none f l = record {
+  few = omega arith;
+  none = λ _. f;
+  chosen = λ h. absurd (omega arith);
+  on-day = record { window = λ i h. absurd (omega arith); label = λ i h. absurd (omega arith) };
+  long = l;
+}
+
+pub routed-found : {C D F T H N : List ℕ} {n k : ℕ} {rows : List Row} {c : ℕ} {P S E I : List ℕ} {m : ℕ} (L : Lanes C D F T H N n k rows c P S E I m)
+    → ((p t : ℕ) → p < yardIn C D n F T k .places → load rows p t ≤ yardIn C D n F T k .cap p)
+    → (start dest s : ℕ) → start < n → dest < n → {src : ℕ} → s ≤ 86400 → BeginsAt S E (at I start) (at I (start + 1)) s (at D start) src → src < 1280
+    → {lab bef : List ℕ} {g : ℕ} → Answer m (nextBy (yardIn C D n F T k) rows P S E) (atDest P dest) src s lab bef g → g < 1280
+    → {path : List ℕ} {r : ℕ} → Trailed lab bef g r path → Routed (yardIn C D n F T k) rows start dest s m D P lab path r
+routed-found L booked start dest s a b sh B h A gh T = record {
+  few = trailed-fits gh T;
+  none = λ e. absurd (omega (arith, T .some));
+  chosen = λ _. found-chosen L booked start dest s a b sh B h A gh (T .trail);
+  on-day = found-good L booked start dest s a b sh B h A gh (T .trail);
+  long = T .long;
+}
 
 -- ---- the rows of a path
 
