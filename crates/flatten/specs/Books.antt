@@ -40,6 +40,7 @@ pub record RowsFlat (b : Book) (K X N : List ℕ) (r : Bool) : Type 0 where
   pub len-exit : length X ≡ 1024
   pub len-next : length N ≡ 1024
 
+-- the same of the whole book: with the answer true it is well formed exactly when the rows in the arrays are
 pub record BookFlat (b : Book) (K X N : List ℕ) (r : Bool) : Type 0 where
   pub packed : Packed K X
   pub fits : r ≡ true → b .count ≤ 1024
