@@ -103,7 +103,30 @@ pub fn route(
         return 0;
     }
     let mut before = [0u16; 1280];
-    let g = search::search(places, links, windows, cap, dur, from, to, head, chain, place, start, end, first, key, exit, next, n, src, s, dest, label, &mut before);
+    let g = search::search(
+        places,
+        links,
+        windows,
+        cap,
+        dur,
+        from,
+        to,
+        head,
+        chain,
+        place,
+        start,
+        end,
+        first,
+        key,
+        exit,
+        next,
+        n,
+        src,
+        s,
+        dest,
+        label,
+        &mut before,
+    );
     if g >= 1280 {
         return 0;
     }

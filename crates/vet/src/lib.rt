@@ -36,5 +36,24 @@ pub fn vet(
         return 1282;
     }
     let mut rows = [0u16; 257];
-    bookfit::book_fits(n, k, cap, dur, from, to, head, chain, count, next_ticket, key, exit, next, &mut rows, start, end, place, first)
+    bookfit::book_fits(
+        n,
+        k,
+        cap,
+        dur,
+        from,
+        to,
+        head,
+        chain,
+        count,
+        next_ticket,
+        key,
+        exit,
+        next,
+        &mut rows,
+        start,
+        end,
+        place,
+        first,
+    )
 }
