@@ -1,7 +1,7 @@
 // What the barn's papers speak of: map, row, book, cursor and answers, each with its limits.
 // What they mean stands in specs/.
 ghost use mathlib.Core.Path.{_≡_};
-ghost use Rattle.rules.specs.Rows.{cursorKey, firstKey};
+ghost use Rattle.rules.specs.Rows.{cursorKey, rowKey, firstKey, lessb};
 
 pub struct Place {
     pub capacity: u8,
@@ -73,6 +73,38 @@ impl Cursor {
             place: 0,
             entry: 0,
             ticket: 0,
+        }
+    }
+
+    // The row's key is above the cursor.
+    pub fn before(self, r: Row) -> bool
+        ensures { λ t. ⌜ t ≡ lessb (cursorKey self) (rowKey r) ⌝ }
+    {
+        let place = r.place as u32;
+        if self.place < place {
+            return true;
+        }
+        if place < self.place {
+            return false;
+        }
+        if self.entry < r.entry {
+            return true;
+        }
+        if r.entry < self.entry {
+            return false;
+        }
+        self.ticket < r.ticket
+    }
+
+    // The cursor after this row.
+    pub fn moved(self, r: Row) -> Self
+        ensures { λ c. ⌜ cursorKey c ≡ rowKey r ⌝ }
+    {
+        let place = r.place as u32;
+        Cursor {
+            place: place,
+            entry: r.entry,
+            ticket: r.ticket,
         }
     }
 }

@@ -70,9 +70,11 @@ pub record OfferedTo (rows : List Row) (q p soonest leave d : ℕ) (S E : List �
 module _ {rows : List Row} {q p soonest leave d : ℕ} {S E : List ℕ} {a b : ℕ} {w : ℕ} {lab op bef : List ℕ} (R : Row1 S E a b d) where
   -- those that end too soon need no look
   pub offered-start : (v : ℕ) → a ≤ v → v ≤ b → ((x : ℕ) → at lab x ≤ 86401) → ((i : ℕ) → a ≤ i → i < v → at E i < soonest + d) → OfferedTo rows q p soonest leave d S E a b w lab op bef v lab op bef
-  offered-start v av vb low past = record { through = λ f X.
-      run-rest (through-none {f = f} {u = w} {lab = lab} {op = op} {bef = bef} {M = In a a} (λ x h. omega (arith, h .from, h .to))) av
-      (λ x h k. let e = entry-past (R .long x h (omega arith)) (X .is x h (omega arith)) (past x h k) in omega (arith, low x)) }
+  offered-start v av vb low past = record {
+    through = λ f X.
+        run-rest (through-none {f = f} {u = w} {lab = lab} {op = op} {bef = bef} {M = In a a} (λ x h. omega (arith, h .from, h .to))) av
+        (λ x h k. let e = entry-past (R .long x h (omega arith)) (X .is x h (omega arith)) (past x h k) in omega (arith, low x));
+  }
 
   pub offered-next : {v : ℕ} {lab′ op′ bef′ lab″ op″ bef″ : List ℕ} → a ≤ v → v < b → v < length lab′ → v < length op′ → v < length bef′
       → OfferedTo rows q p soonest leave d S E a b w lab op bef v lab′ op′ bef′
@@ -83,9 +85,11 @@ module _ {rows : List Row} {q p soonest leave d : ℕ} {S E : List ℕ} {a b : �
   -- the rest start too late
   pub offered-rest : {v : ℕ} {lab′ op′ bef′ : List ℕ} → a ≤ v → v < b → ((x : ℕ) → at lab x ≤ 86401) → leave < at S v
       → OfferedTo rows q p soonest leave d S E a b w lab op bef v lab′ op′ bef′ → OfferedTo rows q p soonest leave d S E a b w lab op bef b lab′ op′ bef′
-  offered-rest {v} av vb low h I = record { through = λ f X.
-      run-rest (I .through f X) (omega arith)
-      (λ x k m. let e = entry-late (R .long x (omega arith) m) (X .is x (omega arith) m) (after x k m) in omega (arith, low x)) }
+  offered-rest {v} av vb low h I = record {
+    through = λ f X.
+        run-rest (I .through f X) (omega arith)
+        (λ x k m. let e = entry-late (R .long x (omega arith) m) (X .is x (omega arith) m) (after x k m) in omega (arith, low x));
+  }
     where
       after : (x : ℕ) → v ≤ x → x < b → leave < at S x
       after x k m =

@@ -112,10 +112,12 @@ module _ (rows : List Row) {n k c m : ℕ} {D F T H N P S E I : List ℕ} (G : G
 
     -- the windows of a place that a link leads to
     pub next-entries : (q : ℕ) → q < n → Y .link p q ≡ true → Entries rows q p (e + at D p) (at E u) (at D q) S E (at I q) (at I (q + 1)) (λ v. nextBy Y rows P S E u v e)
-    next-entries q h l = record { is = λ v a b.
-      let w : v < m = omega (arith, group-end (G .by-place) (q + 1) (omega arith)) in
-      let z : at P v ≡ q = G .by-place .of q v h a b in
-      subst (λ x. IsEntry rows x p (e + at D p) (at E u) (at D x) (at S v) (at E v) (nextBy Y rows P S E u v e)) z (next-entry v w (rw z l)) }
+    next-entries q h l = record {
+      is = λ v a b.
+          let w : v < m = omega (arith, group-end (G .by-place) (q + 1) (omega arith)) in
+          let z : at P v ≡ q = G .by-place .of q v h a b in
+          subst (λ x. IsEntry rows x p (e + at D p) (at E u) (at D x) (at S v) (at E v) (nextBy Y rows P S E u v e)) z (next-entry v w (rw z l));
+    }
 
   -- ---- the loop
 
@@ -147,11 +149,13 @@ module _ (rows : List Row) {n k c m : ℕ} {D F T H N P S E I : List ℕ} (G : G
           record {
             within = omega (arith, Z .within, link-below);
             leaves = Z .leaves;
-            led = record { through = λ Y R.
-              through-join (A .led .through Y R)
-              (O .through (λ v. nextBy Y rows P S E u v (at lab u)) (rw es (next-entries R (at lab u) (at T j) (G .to-on j link-below) (R .links p (at T j) ∙ array-linked F T k p (at T j) j link-below leaves-p refl))))
-              (led-or-not F T k p P m cur) (in-or-out (at I (at T j)) (at I (at T j + 1)))
-              (into Z) (out Z) };
+            led = record {
+              through = λ Y R.
+                  through-join (A .led .through Y R)
+                  (O .through (λ v. nextBy Y rows P S E u v (at lab u)) (rw es (next-entries R (at lab u) (at T j) (G .to-on j link-below) (R .links p (at T j) ∙ array-linked F T k p (at T j) j link-below leaves-p refl))))
+                  (led-or-not F T k p P m cur) (in-or-out (at I (at T j)) (at I (at T j + 1)))
+                  (into Z) (out Z);
+            };
             labels = L;
             blocks = B;
           }
@@ -177,15 +181,18 @@ module _ (rows : List Row) {n k c m : ℕ} {D F T H N P S E I : List ℕ} (G : G
             λ i. nix (record {
               within = omega (arith, group-end (G .by-place) (at T j + 1) (omega (arith, G .to-on j link-below)), i .to);
               leads = at-leads F T p (at P v) (at N j) k j (omega (arith, Z .within)) link-below leaves-p (sym (G .by-place .of (at T j) v (G .to-on j link-below) (i .from) (i .to)));
-            }))
+            }),
+          )
 
     -- all links are followed: every window was offered its entry
     pub along-end : {lab′ op′ le′ bef′ : List ℕ} → ((x : ℕ) → at lab x ≤ 86401) → AlongLinks rows n k m D F T P S E u p lab op bef 0 lab′ op′ le′ bef′
         → Relaxed rows n k m D F T P S E u lab op bef lab′ op′ bef′
-    along-end low A = record { through = λ Y R.
-        through-skip (A .led .through Y R)
-        (λ v h. ⊎-elim (λ l. inl l) (λ nix. inr (nix, by Y R v (h .to) nix)) (led-or-not F T k p P m 0 v))
-        (λ v nix l. nix (record { from = omega arith; to = l .within })) }
+    along-end low A = record {
+      through = λ Y R.
+          through-skip (A .led .through Y R)
+          (λ v h. ⊎-elim (λ l. inl l) (λ nix. inr (nix, by Y R v (h .to) nix)) (led-or-not F T k p P m 0 v))
+          (λ v nix l. nix (record { from = omega arith; to = l .within }));
+    }
       where
         by : (Y : Yard) → Runs Y n k D F T → (v : ℕ) → v < m → (Led F T k p P m 0 v → ⊥) → at lab v ≤ nextBy Y rows P S E u v (at lab u)
         by Y R v h nix =

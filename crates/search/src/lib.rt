@@ -228,7 +228,22 @@ fn relax_place(
         let last = end[v] - d;
         let lo = later(soonest, from);
         let hi = sooner(leave, last);
-        try_window(key, exit, next, n, q, p, lo, hi, v, w, label, live, least, before);
+        try_window(
+            key,
+            exit,
+            next,
+            n,
+            q,
+            p,
+            lo,
+            hi,
+            v,
+            w,
+            label,
+            live,
+            least,
+            before,
+        );
         v += 1;
     }
 }
@@ -264,7 +279,26 @@ fn relax_link(
     let a = first[i] as usize;
     let b = first[i + 1] as usize;
     let d = dur[i];
-    relax_place(start, end, key, exit, next, n, a, b, q, p, d, soonest, leave, w, label, live, least, before);
+    relax_place(
+        start,
+        end,
+        key,
+        exit,
+        next,
+        n,
+        a,
+        b,
+        q,
+        p,
+        d,
+        soonest,
+        leave,
+        w,
+        label,
+        live,
+        least,
+        before,
+    );
 }
 
 // The way through window w of place p offered to every window that a link of p leads to.
@@ -305,7 +339,25 @@ fn relax(
     while cur > 0 {
         let j = cur - 1;
         let q = to[j];
-        relax_link(dur, first, start, end, key, exit, next, n, q, p, soonest, leave, w, label, live, least, before);
+        relax_link(
+            dur,
+            first,
+            start,
+            end,
+            key,
+            exit,
+            next,
+            n,
+            q,
+            p,
+            soonest,
+            leave,
+            w,
+            label,
+            live,
+            least,
+            before,
+        );
         cur = broad(chain[j]);
     }
 }
@@ -357,19 +409,34 @@ pub fn search(
             return w;
         }
         settle::close(&mut live, &mut least, w);
-        relax(places, links, windows, dur, from, to, head, chain, place, start, end, first, key, exit, next, n, w, label, &mut live, &mut least, before);
+        relax(
+            places,
+            links,
+            windows,
+            dur,
+            from,
+            to,
+            head,
+            chain,
+            place,
+            start,
+            end,
+            first,
+            key,
+            exit,
+            next,
+            n,
+            w,
+            label,
+            &mut live,
+            &mut least,
+            before,
+        );
     }
 }
 
 // The window of a .. b that may be entered at s for d seconds, 1,280 where there is none.
-pub fn begin_at(
-    start: &[u32; 1280],
-    end: &[u32; 1280],
-    a: usize,
-    b: usize,
-    s: u32,
-    d: u32,
-) -> usize
+pub fn begin_at(start: &[u32; 1280], end: &[u32; 1280], a: usize, b: usize, s: u32, d: u32) -> usize
     requires { ⌜ (a ≤ b) × (b ≤ 1280) × (s ≤ 86400) × (d ≤ 3600) ⌝ }
     requires { ⌜ Row1 (now start) (now end) a b d ⌝ }
     ensures { λ r. ⌜ BeginsAt (now (start .entry)) (now (end .entry)) a b s d r ⌝ }
@@ -385,12 +452,7 @@ pub fn begin_at(
 }
 
 // The windows that lead to w, itself the last, in travel order; how many.
-pub fn trail(
-    before: &[u16; 1280],
-    label: &[u32; 1280],
-    w: usize,
-    path: &mut [u16; 1280],
-) -> usize
+pub fn trail(before: &[u16; 1280], label: &[u32; 1280], w: usize, path: &mut [u16; 1280]) -> usize
     requires { ⌜ Rooted (now label) (now before) w ⌝ }
     requires { ⌜ length (now path) ≡ 1280 ⌝ }
     ensures { λ r. ⌜ Trailed (now (label .entry)) (now (before .entry)) w r (now (path .exit)) ⌝ }

@@ -56,7 +56,8 @@ pub record Answer (n : ℕ) (nx : ℕ → ℕ → ℕ → ℕ) (goal : ℕ → B
   pub sought : r < 1280 → Sought n top src s nx goal r (distOf lab r)
   pub backs : r < 1280 → Backs n top src s nx (OnWay n top src s nx (befOf bef) r) (distOf lab) (befOf bef)
   pub rooted : r < 1280 → Rooted lab bef r
-  pub traced : r < 1280 → Trace n top src s nx r (distOf lab r)
+  pub begun : r < 1280 → getD bef src 0 ≡ 0
+  pub tied : r < 1280 → (v : ℕ) → v < n → getD lab v 0 < top → (v ≡ src → ⊥) → 0 < getD bef v 0
 
 pub record Going (n : ℕ) (nx : ℕ → ℕ → ℕ → ℕ) (goal : ℕ → Bool) (src s : ℕ) (lab op le bef : List ℕ) : Type 0 where
   pub inv : Inv n top src s nx (doneOf lab op) (distOf lab) (befOf bef)
@@ -222,191 +223,193 @@ module _ {n : ℕ} {nx : ℕ → ℕ → ℕ → ℕ} {goal : ℕ → Bool} {src
     (mono : (w v e e′ : ℕ) → w < n → e ≤ e′ → nx w v e ≤ nx w v e′)
     (later : (w v e : ℕ) → w < n → e < top → e < nx w v e)
   where
-  start-of : (o m : ℕ) → o ≡ 1280 → m ≡ 40 → (lab bef : List ℕ) → length lab ≡ 1280 → length bef ≡ 1280 → getD bef src 0 ≡ 0 → ((v : ℕ) → v < 1280 → getD lab v 0 ≡ top)
-      → Going n nx goal src s (set lab src s) (set (replicate o top) src s) (set (replicate m top) (src / 32) s) bef
-  start-of o m en em lab bef hl hb zb f = record {
-    inv = begin n top src s nx open-all src-in (getD-set-same lab src s 0 (omega arith)) (λ v h ne. getD-set-other lab src v s 0 ne ∙ f v (omega arith));
-    blocks = blocks-lower (blocks-start o m en em) src (src / 32) s (omega arith) (omega arith) (omega arith) (omega arith)
-        (omega (arith, getD-replicate o src top 0 (omega arith))) (omega (arith, getD-replicate m (src / 32) top 0 (omega arith)));
-    above = λ v. omega (arith, same v);
-    shut = λ v h c. absurd (omega (arith, same v));
-    below = λ v. ⊎-elim (λ e. rw e (omega (arith, getD-set-same lab src s 0 (omega arith)))) (λ ne. omega (arith, getD-set-other lab src v s 0 ne, fresh v)) (eq-or-ne v src);
-    goals = λ w h d. absurd (not-both d (open-all w h));
-    begun = zb;
-    tied = λ v h l ne. absurd (omega (arith, getD-set-other lab src v s 0 ne, f v (omega arith)));
-    beyond = λ v h k. getD-set-other (replicate o top) src v s 0 (λ e. omega arith) ∙ getD-replicate o v top 0 (omega arith);
-    len-lab = length-set lab src s ∙ hl;
-    len-bef = hb;
-  }
-    where
-      fresh : (v : ℕ) → getD lab v 0 ≤ top
-      fresh v = ⊎-elim (λ (c : v < 1280). omega (arith, f v c)) (λ (c : 1280 ≤ v). omega (arith, List·getD-eq-default lab 0 {n = v} (omega arith))) (lt-or-ge v 1280)
-
-      same : (v : ℕ) → getD (set lab src s) v 0 ≡ getD (set (replicate o top) src s) v 0
-      same v =
-          ⊎-elim (λ e. rw e (getD-set-same lab src s 0 (omega arith) ∙ sym (getD-set-same (replicate o top) src s 0 (omega (arith, length-replicate o top)))))
-          (λ ne. getD-set-other lab src v s 0 ne ∙ (
-          ⊎-elim (λ (c : v < 1280). f v c ∙ sym (getD-replicate o v top 0 (omega arith)))
-          (λ (c : 1280 ≤ v). List·getD-eq-default lab 0 {n = v} (omega arith) ∙ sym (List·getD-eq-default (replicate o top) 0 {n = v} (omega (arith, length-replicate o top))))
-          (lt-or-ge v 1280) ∙ sym (getD-set-other (replicate o top) src v s 0 ne)))
-          (eq-or-ne v src)
-
-      open-all : (v : ℕ) → v < n → doneOf (set lab src s) (set (replicate o top) src s) v ≡ false
-      open-all v h = le-ltb (getD (set lab src s) v 0) (getD (set (replicate o top) src s) v 0) (omega (arith, same v))
-
-  pub going-start : (lab bef : List ℕ) → length lab ≡ 1280 → length bef ≡ 1280 → getD bef src 0 ≡ 0 → ((v : ℕ) → v < 1280 → getD lab v 0 ≡ top)
-      → Going n nx goal src s (set lab src s) (set (replicate 1280 top) src s) (set (replicate 40 top) (src / 32) s) bef
-  going-start lab bef hl hb zb f = start-of 1280 40 refl refl lab bef hl hb zb f
-
-  module _ {lab op le bef : List ℕ} {u top-of : ℕ} (G : Going n nx goal src s lab op le bef) (n-of : n ≤ top-of) (P : Picked top-of op u) where
-    -- an open node's open label is its label
-    is-open : (v : ℕ) → doneOf lab op v ≡ false → getD op v 0 ≡ getD lab v 0
-    is-open v o = omega (arith, G .above v, ltb-false (getD lab v 0) (getD op v 0) o)
-
-    pub going-none : u ≡ 1280 → Answer n nx goal src s lab bef 1280
-    going-none e = record {
-      within = omega arith;
-      none = λ _. not-sought n top src s nx src-in s-in mono later (G .inv) (λ v h o. omega (arith, P .none e v (omega arith), is-open v o)) (G .goals);
-      sought = λ h. absurd (omega arith);
-      backs = λ h. absurd (omega arith);
-      rooted = λ h. absurd (omega arith);
-      traced = λ h. absurd (omega arith);
+    start-of : (o m : ℕ) → o ≡ 1280 → m ≡ 40 → (lab bef : List ℕ) → length lab ≡ 1280 → length bef ≡ 1280 → getD bef src 0 ≡ 0 → ((v : ℕ) → v < 1280 → getD lab v 0 ≡ top)
+        → Going n nx goal src s (set lab src s) (set (replicate o top) src s) (set (replicate m top) (src / 32) s) bef
+    start-of o m en em lab bef hl hb zb f = record {
+      inv = begin n top src s nx open-all src-in (getD-set-same lab src s 0 (omega arith)) (λ v h ne. getD-set-other lab src v s 0 ne ∙ f v (omega arith));
+      blocks = blocks-lower (blocks-start o m en em) src (src / 32) s (omega arith) (omega arith) (omega arith) (omega arith)
+          (omega (arith, getD-replicate o src top 0 (omega arith))) (omega (arith, getD-replicate m (src / 32) top 0 (omega arith)));
+      above = λ v. omega (arith, same v);
+      shut = λ v h c. absurd (omega (arith, same v));
+      below = λ v. ⊎-elim (λ e. rw e (omega (arith, getD-set-same lab src s 0 (omega arith)))) (λ ne. omega (arith, getD-set-other lab src v s 0 ne, fresh v)) (eq-or-ne v src);
+      goals = λ w h d. absurd (not-both d (open-all w h));
+      begun = zb;
+      tied = λ v h l ne. absurd (omega (arith, getD-set-other lab src v s 0 ne, f v (omega arith)));
+      beyond = λ v h k. getD-set-other (replicate o top) src v s 0 (λ e. omega arith) ∙ getD-replicate o v top 0 (omega arith);
+      len-lab = length-set lab src s ∙ hl;
+      len-bef = hb;
     }
+      where
+        fresh : (v : ℕ) → getD lab v 0 ≤ top
+        fresh v = ⊎-elim (λ (c : v < 1280). omega (arith, f v c)) (λ (c : 1280 ≤ v). omega (arith, List·getD-eq-default lab 0 {n = v} (omega arith))) (lt-or-ge v 1280)
 
-    -- what is picked is a node
-    pub in-n : u < 1280 → u < n
-    in-n k = ⊎-elim (λ (c : u < n). c) (λ (c : n ≤ u). absurd (omega (arith, G .beyond u c k, P .some k))) (lt-or-ge u n)
+        same : (v : ℕ) → getD (set lab src s) v 0 ≡ getD (set (replicate o top) src s) v 0
+        same v =
+            ⊎-elim (λ e. rw e (getD-set-same lab src s 0 (omega arith) ∙ sym (getD-set-same (replicate o top) src s 0 (omega (arith, length-replicate o top)))))
+            (λ ne. getD-set-other lab src v s 0 ne ∙ (
+            ⊎-elim (λ (c : v < 1280). f v c ∙ sym (getD-replicate o v top 0 (omega arith)))
+            (λ (c : 1280 ≤ v). List·getD-eq-default lab 0 {n = v} (omega arith) ∙ sym (List·getD-eq-default (replicate o top) 0 {n = v} (omega (arith, length-replicate o top))))
+            (lt-or-ge v 1280) ∙ sym (getD-set-other (replicate o top) src v s 0 ne)))
+            (eq-or-ne v src)
 
-    module _ (k₁ : u < 1280) where
-      k : u < n
-      k = in-n k₁
+        open-all : (v : ℕ) → v < n → doneOf (set lab src s) (set (replicate o top) src s) v ≡ false
+        open-all v h = le-ltb (getD (set lab src s) v 0) (getD (set (replicate o top) src s) v 0) (omega (arith, same v))
 
-      same-u : getD op u 0 ≡ getD lab u 0
-      same-u = ⊎-elim (λ (c : getD lab u 0 < getD op u 0). absurd (omega (arith, G .shut u k c, P .some k₁))) (λ (c : getD op u 0 ≤ getD lab u 0). omega (arith, G .above u)) (lt-or-ge (getD lab u 0) (getD op u 0))
+    pub going-start : (lab bef : List ℕ) → length lab ≡ 1280 → length bef ≡ 1280 → getD bef src 0 ≡ 0 → ((v : ℕ) → v < 1280 → getD lab v 0 ≡ top)
+        → Going n nx goal src s (set lab src s) (set (replicate 1280 top) src s) (set (replicate 40 top) (src / 32) s) bef
+    going-start lab bef hl hb zb f = start-of 1280 40 refl refl lab bef hl hb zb f
 
-      pub low-u : getD lab u 0 < top
-      low-u = omega (arith, same-u, P .some k₁)
+    module _ {lab op le bef : List ℕ} {u top-of : ℕ} (G : Going n nx goal src s lab op le bef) (n-of : n ≤ top-of) (P : Picked top-of op u) where
+      -- an open node's open label is its label
+      is-open : (v : ℕ) → doneOf lab op v ≡ false → getD op v 0 ≡ getD lab v 0
+      is-open v o = omega (arith, G .above v, ltb-false (getD lab v 0) (getD op v 0) o)
 
-      undone-u : doneOf lab op u ≡ false
-      undone-u = le-ltb (getD lab u 0) (getD op u 0) (omega (arith, same-u))
-
-      pick-of : Pick n (doneOf lab op) (distOf lab) u
-      pick-of = record {
-        within = k;
-        undone = undone-u;
-        least = λ v h o.
-            let A = P .one k₁ .least v (omega arith) in
-            record { le = omega (arith, A .le, same-u, is-open v o); tie = λ c. A .tie (omega (arith, same-u, is-open v o)) };
+      pub going-none : u ≡ 1280 → Answer n nx goal src s lab bef 1280
+      going-none e = record {
+        within = omega arith;
+        none = λ _. not-sought n top src s nx src-in s-in mono later (G .inv) (λ v h o. omega (arith, P .none e v (omega arith), is-open v o)) (G .goals);
+        sought = λ h. absurd (omega arith);
+        backs = λ h. absurd (omega arith);
+        rooted = λ h. absurd (omega arith);
+        begun = λ h. absurd (omega arith);
+        tied = λ h. absurd (omega arith);
       }
 
-      rooted-of : {S : ℕ → Type 0} → Backs n top src s nx S (distOf lab) (befOf bef) → (v : ℕ) → v < n → S v → Rooted lab bef v
-      rooted-of {S} B v h m = strong (λ x. (v : ℕ) → v < n → S v → getD lab v 0 ≡ x → Rooted lab bef v) step (getD lab v 0) v h m refl
-        where
-          step : (x : ℕ) → ((y : ℕ) → y < x → (v : ℕ) → v < n → S v → getD lab v 0 ≡ y → Rooted lab bef v) → (v : ℕ) → v < n → S v → getD lab v 0 ≡ x → Rooted lab bef v
-          step x ih v h m e =
-              ⊎-elim (λ q. rw q (root src (omega arith) (G .begun)))
-              (λ q.
-              let d = B .falls v h m q in
-              link v (omega arith) (G .tied v h (at-lt n top src s nx s-in (B .first v h m .at)) q) d
-              (ih (getD lab (befOf bef v) 0) (omega arith) (befOf bef v) (B .best v h m q .within) (B .inside v h m q) refl))
-              (eq-or-ne v src)
+      -- what is picked is a node
+      pub in-n : u < 1280 → u < n
+      in-n k = ⊎-elim (λ (c : u < n). c) (λ (c : n ≤ u). absurd (omega (arith, G .beyond u c k, P .some k))) (lt-or-ge u n)
 
-      pub going-goal : goal u ≡ true → Answer n nx goal src s lab bef u
-      going-goal g =
-          let B = backs-stop n top src s nx src-in s-in mono later (G .inv) pick-of low-u in
-          record {
-            within = omega (arith, k₁);
-            none = λ e. absurd (omega (arith, k₁));
-            sought = λ _. stop n top src s nx src-in s-in mono later (G .inv) pick-of low-u (G .goals) g;
-            backs = λ _. way n top src s nx B u k (inr refl);
-            rooted = λ _. rooted-of B u k (inr refl);
-            traced = λ _. trace n top src s nx B u k (inr refl);
-          }
+      module _ (k₁ : u < 1280) where
+        k : u < n
+        k = in-n k₁
 
-      node : {v : ℕ} → v < n → In 0 n v
-      node h = record { from = omega arith; to = h }
+        same-u : getD op u 0 ≡ getD lab u 0
+        same-u = ⊎-elim (λ (c : getD lab u 0 < getD op u 0). absurd (omega (arith, G .shut u k c, P .some k₁))) (λ (c : getD op u 0 ≤ getD lab u 0). omega (arith, G .above u)) (lt-or-ge (getD lab u 0) (getD op u 0))
 
-      no-node : {v : ℕ} → n ≤ v → In 0 n v → ⊥
-      no-node h z = omega (arith, z .to)
+        pub low-u : getD lab u 0 < top
+        low-u = omega (arith, same-u, P .some k₁)
 
-      above-set : (v : ℕ) → getD lab v 0 ≤ getD (set op u top) v 0
-      above-set v = ⊎-elim (λ e. rw e (omega (arith, low-u, getD-set-same op u top 0 (omega (arith, G .blocks .len-op))))) (λ ne. omega (arith, getD-set-other op u v top 0 ne, G .above v)) (eq-or-ne v u)
+        undone-u : doneOf lab op u ≡ false
+        undone-u = le-ltb (getD lab u 0) (getD op u 0) (omega (arith, same-u))
 
-      pub closed-above : {op₁ : List ℕ} → op₁ ≡ set op u top → (v : ℕ) → getD lab v 0 ≤ getD op₁ v 0
-      closed-above e v = rw e (above-set v)
-
-      module _ {op₁ lab′ op′ bef′ : List ℕ} (shut-u : op₁ ≡ set op u top) (R₁ : Through (In 0 n) (λ v. nx u v (getD lab u 0)) u lab op₁ bef lab′ op′ bef′) where
-        R : Through (In 0 n) (λ v. nx u v (getD lab u 0)) u lab (set op u top) bef lab′ op′ bef′
-        R = subst (λ o. Through (In 0 n) (λ v. nx u v (getD lab u 0)) u lab o bef lab′ op′ bef′) shut-u R₁
-
-        lat : (v : ℕ) → getD lab u 0 < nx u v (getD lab u 0)
-        lat v = later u v (getD lab u 0) k low-u
-
-        lab-u : getD lab′ u 0 ≡ getD lab u 0
-        lab-u = omega (arith, R .better u (node k), lat u)
-
-        op-u : getD op′ u 0 ≡ top
-        op-u = R .left u (node k) (omega (arith, lat u)) .0 ∙ getD-set-same op u top 0 (omega (arith, G .blocks .len-op))
-
-        pub done-u : doneOf lab′ op′ u ≡ true
-        done-u = lt-ltb (getD lab′ u 0) (getD op′ u 0) (omega (arith, lab-u, op-u, low-u))
-
-        -- where a node takes the offer, it is open before and after
-        took-open : (v : ℕ) → v < n → nx u v (getD lab u 0) < getD lab v 0 → doneOf lab op v ≡ false
-        took-open v h c = ⊎-elim (λ d. absurd (omega (arith, G .inv .order v u h k d undone-u .le, lat v))) (λ o. o) (true-or-false (doneOf lab op v))
-
-        other : (v : ℕ) → (v ≡ u → ⊥) → getD (set op u top) v 0 ≡ getD op v 0
-        other v ne = getD-set-other op u v top 0 ne
-
-        pub done-other : (v : ℕ) → (v ≡ u → ⊥) → doneOf lab′ op′ v ≡ doneOf lab op v
-        done-other v ne =
-            ⊎-elim
-            (λ (h : v < n).
-            ⊎-elim
-            (λ (c : nx u v (getD lab u 0) < getD lab v 0). le-ltb (getD lab′ v 0) (getD op′ v 0) (omega (arith, R .better v (node h), R .took v (node h) c .0)) ∙ sym (took-open v h c))
-            (λ (c : getD lab v 0 ≤ nx u v (getD lab u 0)).
-            let a : getD lab′ v 0 ≡ getD lab v 0 = omega (arith, R .better v (node h)) in
-            let b : getD op′ v 0 ≡ getD op v 0 = R .left v (node h) c .0 ∙ other v ne in
-            ap (λ x. ltb x (getD op′ v 0)) a ∙ ap (ltb (getD lab v 0)) b)
-            (lt-or-ge (nx u v (getD lab u 0)) (getD lab v 0)))
-            (λ (h : n ≤ v). ap (λ x. ltb x (getD op′ v 0)) (R .rest v (no-node h) .0) ∙ ap (ltb (getD lab v 0)) (R .rest v (no-node h) .1 ∙ other v ne))
-            (lt-or-ge v n)
-
-        pub going-less : opens (doneOf lab′ op′) n < opens (doneOf lab op) n
-        going-less = opens-less (doneOf lab op) (doneOf lab′ op′) n u k undone-u done-u done-other
-
-        pub going-turn : {le′ : List ℕ} → goal u ≡ false → Blocks op′ le′ → Going n nx goal src s lab′ op′ le′ bef′
-        going-turn {le′} g B = record {
-          inv = turn n top src s nx src-in s-in mono later (G .inv) pick-of low-u done-u done-other (λ v h. R .better v (node h))
-              (λ v h c. omega (arith, R .took v (node h) c .1)) (λ v h c. omega (arith, R .left v (node h) c .1));
-          blocks = B;
-          above = through-above R (in-or-out 0 n) above-set;
-          shut = shut′;
-          below = λ v. ⊎-elim (λ (c : v < n). omega (arith, R .better v (node c), G .below v)) (λ (c : n ≤ v). omega (arith, R .rest v (no-node c) .0, G .below v)) (lt-or-ge v n);
-          goals = λ w h d. ⊎-elim (λ e. rw e g) (λ ne. G .goals w h (sym (done-other w ne) ∙ d)) (eq-or-ne w u);
-          begun = R .left src (node src-in) (omega (arith, G .inv .start, at-ge n top src s nx src-in s-in mono later (G .inv .real u k low-u), lat src)) .1 ∙ G .begun;
-          tied = tied′;
-          beyond = λ v h z. R .rest v (no-node h) .1 ∙ (other v (λ e. omega (arith, k)) ∙ G .beyond v h z);
-          len-lab = R .len-lab ∙ G .len-lab;
-          len-bef = R .len-bef ∙ G .len-bef;
+        pick-of : Pick n (doneOf lab op) (distOf lab) u
+        pick-of = record {
+          within = k;
+          undone = undone-u;
+          least = λ v h o.
+              let A = P .one k₁ .least v (omega arith) in
+              record { le = omega (arith, A .le, same-u, is-open v o); tie = λ c. A .tie (omega (arith, same-u, is-open v o)) };
         }
-          where
-            tied′ : (v : ℕ) → v < n → getD lab′ v 0 < top → (v ≡ src → ⊥) → 0 < getD bef′ v 0
-            tied′ v h l ne =
-                ⊎-elim (λ (c : nx u v (getD lab u 0) < getD lab v 0). omega (arith, R .took v (node h) c .1))
-                (λ (c : getD lab v 0 ≤ nx u v (getD lab u 0)). omega (arith, R .left v (node h) c .1, G .tied v h (omega (arith, R .better v (node h))) ne))
-                (lt-or-ge (nx u v (getD lab u 0)) (getD lab v 0))
 
-            shut′ : (v : ℕ) → v < n → getD lab′ v 0 < getD op′ v 0 → getD op′ v 0 ≡ top
-            shut′ v h c =
-                ⊎-elim (λ e. rw e op-u)
-                (λ ne.
-                let d : ltb (getD lab v 0) (getD op v 0) ≡ true = sym (done-other v ne) ∙ lt-ltb (getD lab′ v 0) (getD op′ v 0) c in
-                ⊎-elim
-                (λ (z : nx u v (getD lab u 0) < getD lab v 0). absurd (not-both d (took-open v h z)))
-                (λ (z : getD lab v 0 ≤ nx u v (getD lab u 0)). R .left v (node h) z .0 ∙ (other v ne ∙ G .shut v h (ltb-true (getD lab v 0) (getD op v 0) d)))
-                (lt-or-ge (nx u v (getD lab u 0)) (getD lab v 0)))
-                (eq-or-ne v u)
+        rooted-of : {S : ℕ → Type 0} → Backs n top src s nx S (distOf lab) (befOf bef) → (v : ℕ) → v < n → S v → Rooted lab bef v
+        rooted-of {S} B v h m = strong (λ x. (v : ℕ) → v < n → S v → getD lab v 0 ≡ x → Rooted lab bef v) step (getD lab v 0) v h m refl
+          where
+            step : (x : ℕ) → ((y : ℕ) → y < x → (v : ℕ) → v < n → S v → getD lab v 0 ≡ y → Rooted lab bef v) → (v : ℕ) → v < n → S v → getD lab v 0 ≡ x → Rooted lab bef v
+            step x ih v h m e =
+                ⊎-elim (λ q. rw q (root src (omega arith) (G .begun)))
+                (λ q.
+                let d = B .falls v h m q in
+                link v (omega arith) (G .tied v h (at-lt n top src s nx s-in (B .first v h m .at)) q) d
+                (ih (getD lab (befOf bef v) 0) (omega arith) (befOf bef v) (B .best v h m q .within) (B .inside v h m q) refl))
+                (eq-or-ne v src)
+
+        pub going-goal : goal u ≡ true → Answer n nx goal src s lab bef u
+        going-goal g =
+            let B = backs-stop n top src s nx src-in s-in mono later (G .inv) pick-of low-u in
+            record {
+              within = omega (arith, k₁);
+              none = λ e. absurd (omega (arith, k₁));
+              sought = λ _. stop n top src s nx src-in s-in mono later (G .inv) pick-of low-u (G .goals) g;
+              backs = λ _. way n top src s nx B u k (inr refl);
+              rooted = λ _. rooted-of B u k (inr refl);
+              begun = λ _. G .begun;
+              tied = λ _. G .tied;
+            }
+
+        node : {v : ℕ} → v < n → In 0 n v
+        node h = record { from = omega arith; to = h }
+
+        no-node : {v : ℕ} → n ≤ v → In 0 n v → ⊥
+        no-node h z = omega (arith, z .to)
+
+        above-set : (v : ℕ) → getD lab v 0 ≤ getD (set op u top) v 0
+        above-set v = ⊎-elim (λ e. rw e (omega (arith, low-u, getD-set-same op u top 0 (omega (arith, G .blocks .len-op))))) (λ ne. omega (arith, getD-set-other op u v top 0 ne, G .above v)) (eq-or-ne v u)
+
+        pub closed-above : {op₁ : List ℕ} → op₁ ≡ set op u top → (v : ℕ) → getD lab v 0 ≤ getD op₁ v 0
+        closed-above e v = rw e (above-set v)
+
+        module _ {op₁ lab′ op′ bef′ : List ℕ} (shut-u : op₁ ≡ set op u top) (R₁ : Through (In 0 n) (λ v. nx u v (getD lab u 0)) u lab op₁ bef lab′ op′ bef′) where
+          R : Through (In 0 n) (λ v. nx u v (getD lab u 0)) u lab (set op u top) bef lab′ op′ bef′
+          R = subst (λ o. Through (In 0 n) (λ v. nx u v (getD lab u 0)) u lab o bef lab′ op′ bef′) shut-u R₁
+
+          lat : (v : ℕ) → getD lab u 0 < nx u v (getD lab u 0)
+          lat v = later u v (getD lab u 0) k low-u
+
+          lab-u : getD lab′ u 0 ≡ getD lab u 0
+          lab-u = omega (arith, R .better u (node k), lat u)
+
+          op-u : getD op′ u 0 ≡ top
+          op-u = R .left u (node k) (omega (arith, lat u)) .0 ∙ getD-set-same op u top 0 (omega (arith, G .blocks .len-op))
+
+          pub done-u : doneOf lab′ op′ u ≡ true
+          done-u = lt-ltb (getD lab′ u 0) (getD op′ u 0) (omega (arith, lab-u, op-u, low-u))
+
+          -- where a node takes the offer, it is open before and after
+          took-open : (v : ℕ) → v < n → nx u v (getD lab u 0) < getD lab v 0 → doneOf lab op v ≡ false
+          took-open v h c = ⊎-elim (λ d. absurd (omega (arith, G .inv .order v u h k d undone-u .le, lat v))) (λ o. o) (true-or-false (doneOf lab op v))
+
+          other : (v : ℕ) → (v ≡ u → ⊥) → getD (set op u top) v 0 ≡ getD op v 0
+          other v ne = getD-set-other op u v top 0 ne
+
+          pub done-other : (v : ℕ) → (v ≡ u → ⊥) → doneOf lab′ op′ v ≡ doneOf lab op v
+          done-other v ne =
+              ⊎-elim
+              (λ (h : v < n).
+              ⊎-elim
+              (λ (c : nx u v (getD lab u 0) < getD lab v 0). le-ltb (getD lab′ v 0) (getD op′ v 0) (omega (arith, R .better v (node h), R .took v (node h) c .0)) ∙ sym (took-open v h c))
+              (λ (c : getD lab v 0 ≤ nx u v (getD lab u 0)).
+              let a : getD lab′ v 0 ≡ getD lab v 0 = omega (arith, R .better v (node h)) in
+              let b : getD op′ v 0 ≡ getD op v 0 = R .left v (node h) c .0 ∙ other v ne in
+              ap (λ x. ltb x (getD op′ v 0)) a ∙ ap (ltb (getD lab v 0)) b)
+              (lt-or-ge (nx u v (getD lab u 0)) (getD lab v 0)))
+              (λ (h : n ≤ v). ap (λ x. ltb x (getD op′ v 0)) (R .rest v (no-node h) .0) ∙ ap (ltb (getD lab v 0)) (R .rest v (no-node h) .1 ∙ other v ne))
+              (lt-or-ge v n)
+
+          pub going-less : opens (doneOf lab′ op′) n < opens (doneOf lab op) n
+          going-less = opens-less (doneOf lab op) (doneOf lab′ op′) n u k undone-u done-u done-other
+
+          pub going-turn : {le′ : List ℕ} → goal u ≡ false → Blocks op′ le′ → Going n nx goal src s lab′ op′ le′ bef′
+          going-turn {le′} g B = record {
+            inv = turn n top src s nx src-in s-in mono later (G .inv) pick-of low-u done-u done-other (λ v h. R .better v (node h))
+                (λ v h c. omega (arith, R .took v (node h) c .1)) (λ v h c. omega (arith, R .left v (node h) c .1));
+            blocks = B;
+            above = through-above R (in-or-out 0 n) above-set;
+            shut = shut′;
+            below = λ v. ⊎-elim (λ (c : v < n). omega (arith, R .better v (node c), G .below v)) (λ (c : n ≤ v). omega (arith, R .rest v (no-node c) .0, G .below v)) (lt-or-ge v n);
+            goals = λ w h d. ⊎-elim (λ e. rw e g) (λ ne. G .goals w h (sym (done-other w ne) ∙ d)) (eq-or-ne w u);
+            begun = R .left src (node src-in) (omega (arith, G .inv .start, at-ge n top src s nx src-in s-in mono later (G .inv .real u k low-u), lat src)) .1 ∙ G .begun;
+            tied = tied′;
+            beyond = λ v h z. R .rest v (no-node h) .1 ∙ (other v (λ e. omega (arith, k)) ∙ G .beyond v h z);
+            len-lab = R .len-lab ∙ G .len-lab;
+            len-bef = R .len-bef ∙ G .len-bef;
+          }
+            where
+              tied′ : (v : ℕ) → v < n → getD lab′ v 0 < top → (v ≡ src → ⊥) → 0 < getD bef′ v 0
+              tied′ v h l ne =
+                  ⊎-elim (λ (c : nx u v (getD lab u 0) < getD lab v 0). omega (arith, R .took v (node h) c .1))
+                  (λ (c : getD lab v 0 ≤ nx u v (getD lab u 0)). omega (arith, R .left v (node h) c .1, G .tied v h (omega (arith, R .better v (node h))) ne))
+                  (lt-or-ge (nx u v (getD lab u 0)) (getD lab v 0))
+
+              shut′ : (v : ℕ) → v < n → getD lab′ v 0 < getD op′ v 0 → getD op′ v 0 ≡ top
+              shut′ v h c =
+                  ⊎-elim (λ e. rw e op-u)
+                  (λ ne.
+                  let d : ltb (getD lab v 0) (getD op v 0) ≡ true = sym (done-other v ne) ∙ lt-ltb (getD lab′ v 0) (getD op′ v 0) c in
+                  ⊎-elim
+                  (λ (z : nx u v (getD lab u 0) < getD lab v 0). absurd (not-both d (took-open v h z)))
+                  (λ (z : getD lab v 0 ≤ nx u v (getD lab u 0)). R .left v (node h) z .0 ∙ (other v ne ∙ G .shut v h (ltb-true (getD lab v 0) (getD op v 0) d)))
+                  (lt-or-ge (nx u v (getD lab u 0)) (getD lab v 0)))
+                  (eq-or-ne v u)
 
 -- ---- the way back
 

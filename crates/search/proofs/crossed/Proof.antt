@@ -74,10 +74,11 @@ loop-again : tie.Need-loop-again Inv-loop μ-loop
 loop-again c =
     let s = c .before .before .before .before in
     let l = c .before .before .before .loop in
-    let a = s .args in
-    (omega arith,
+    let a = s .args in (
+      omega arith,
       below-more (λ k. placeOf (at (a .key .now) k) ≡ a .q → at (a .next .now) k ≡ a .p → at (a .exit .now) k ≡ a .t → ⊥) (l .i) (l .inv .1)
-      (λ x y z. ⊎-elim (λ w. not-both (w .3 .ensures .1 (x, y)) (w .4 .left)) (λ w. w .left z) (c .if1 .came)))
+          (λ x y z. ⊎-elim (λ w. not-both (w .3 .ensures .1 (x, y)) (w .4 .left)) (λ w. w .left z) (c .if1 .came)),
+    )
 
 -- src/lib.rt:58:1
 returns-2 : tie.Need-returns-2 Inv-loop μ-loop

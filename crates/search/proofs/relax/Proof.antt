@@ -110,10 +110,13 @@ relax-link-requires c κs =
     let q : ℕ = at (a .to .now) j in
     let qn : q < a .places = G .to-on j jk in
     let h = group-place (G .by-place) (a .w) (s .pre .1 .0 .0) in
-    let e = ap (at (a .dur .now)) (c .before .before .before .before .before .before .before .before .before .before .before .before .wide .ensures .0) in
-    ((G .rows, omega (arith, G .windows, s .pre .1 .0 .0), omega (arith, s .pre .1 .0 .1, G .durs (at (a .place .now) (a .w)) h), G .in-day (a .w) (s .pre .1 .0 .0)),
-      ((G .by-place .up q qn, omega (arith, group-end (G .by-place) (q + 1) (omega arith), G .windows), G .durs q qn),
-        (G .of-place q qn, (l .inv .labels, l .inv .blocks))))
+    let e = ap (at (a .dur .now)) (c .before .before .before .before .before .before .before .before .before .before .before .before .wide .ensures .0) in (
+      (G .rows, omega (arith, G .windows, s .pre .1 .0 .0), omega (arith, s .pre .1 .0 .1, G .durs (at (a .place .now) (a .w)) h), G .in-day (a .w) (s .pre .1 .0 .0)),
+      (
+        (G .by-place .up q qn, omega (arith, group-end (G .by-place) (q + 1) (omega arith), G .windows), G .durs q qn),
+        (G .of-place q qn, (l .inv .labels, l .inv .blocks)),
+      ),
+    )
 
 -- src/lib.rt:306:21
 mul-broad-2 : tie.Need-mul-broad-2 Inv-loop μ-loop
@@ -150,7 +153,7 @@ loop-again c =
     let rows = rowsIn (a .key .now) (a .exit .now) (a .next .now) (a .n) in
     let w = c .before .before .before .before .before .before .before .before .before .before .before .before .before .before .before .wide .ensures .0 in
     rw (c .broad2 .ensures .0) (along-next rows (s .pre .0) (s .pre .1 .0 .0) refl (l .inv) ej (ap (λ x. at (a .label .now) (a .w) + at (a .dur .now) x) w)
-      (c .before .before .relax-link .ensures .0) (c .before .before .relax-link .ensures .1 .0) (c .before .before .relax-link .ensures .1 .1))
+    (c .before .before .relax-link .ensures .0) (c .before .before .relax-link .ensures .1 .0) (c .before .before .relax-link .ensures .1 .1))
 
 -- src/lib.rt:268:1
 returns : tie.Need-returns Inv-loop μ-loop
@@ -161,7 +164,7 @@ returns c =
     let rows = rowsIn (a .key .now) (a .exit .now) (a .next .now) (a .n) in
     let e : l .cur ≡ 0 = omega (arith, c .loop-test .left) in
     let I : AlongLinks rows (a .places) (a .links) (a .windows) (a .dur .now) (a .from .now) (a .to .now) (a .place .now) (a .start .now) (a .end .now) (a .w) (at (a .place .now) (a .w)) (a .label .now) (a .live .now) (a .before .now) 0 (l .label) (l .live) (l .least) (l .before)
-        = subst (λ x. AlongLinks rows (a .places) (a .links) (a .windows) (a .dur .now) (a .from .now) (a .to .now) (a .place .now) (a .start .now) (a .end .now) (a .w) (at (a .place .now) (a .w)) (a .label .now) (a .live .now) (a .before .now) x (l .label) (l .live) (l .least) (l .before)) e (l .inv) in
+    = subst (λ x. AlongLinks rows (a .places) (a .links) (a .windows) (a .dur .now) (a .from .now) (a .to .now) (a .place .now) (a .start .now) (a .end .now) (a .w) (at (a .place .now) (a .w)) (a .label .now) (a .live .now) (a .before .now) x (l .label) (l .live) (l .least) (l .before)) e (l .inv) in
     (along-end rows (s .pre .0) (s .pre .1 .0 .0) refl (s .pre .1 .1 .0 .low) I, (l .inv .labels, l .inv .blocks))
 
 pub relax-spec : {M : Type 1} → statement M

@@ -110,9 +110,13 @@ relax-requires c κs =
     let P = c .before .before .before .before .before .before .before .before .before .before .before .before .before .before .before .pre in
     let L = P .0 in
     let k = c .before .before .before .before .before .before .before .before .before .before .if1 .left in
-    let e = c .before .before .before .before .close .ensures in
-    (lanes-ground L, ((in-n (L .few) (P .1 .0 .0) (P .1 .0 .1) (lanes-mono L) (lanes-later L) g (omega arith) (p .ensures) k, omega (arith, low-u (L .few) (P .1 .0 .0) (P .1 .0 .1) (lanes-mono L) (lanes-later L) g (omega arith) (p .ensures) k)),
-      (record { low = g .below; above = closed-above (L .few) (P .1 .0 .0) (P .1 .0 .1) (lanes-mono L) (lanes-later L) g (omega arith) (p .ensures) k (e .0); len-lab = g .len-lab; len-bef = g .len-bef }, e .1)))
+    let e = c .before .before .before .before .close .ensures in (
+      lanes-ground L,
+      (
+        (in-n (L .few) (P .1 .0 .0) (P .1 .0 .1) (lanes-mono L) (lanes-later L) g (omega arith) (p .ensures) k, omega (arith, low-u (L .few) (P .1 .0 .0) (P .1 .0 .1) (lanes-mono L) (lanes-later L) g (omega arith) (p .ensures) k)),
+        (record { low = g .below; above = closed-above (L .few) (P .1 .0 .0) (P .1 .0 .1) (lanes-mono L) (lanes-later L) g (omega arith) (p .ensures) k (e .0); len-lab = g .len-lab; len-bef = g .len-bef }, e .1),
+      ),
+    )
 
 -- src/lib.rt:350:5
 loop-less : tie.Need-loop-less Inv-loop μ-loop
@@ -135,7 +139,7 @@ loop-again c =
     let k = c .before .before .before .before .before .before .before .before .before .before .before .if1 .left in
     let e = c .before .before .before .before .before .close .ensures in
     going-turn (L .few) (P .1 .0 .0) (P .1 .0 .1) (lanes-mono L) (lanes-later L) g (omega arith) (p .ensures) k (e .0) (c .relax .ensures .0 .through _ (lanes-runs L))
-      (ne-eqb _ _ (λ z. c .before .before .before .before .before .before .before .before .if2 .left (c .before .before .before .before .before .before .before .before .before .wide .ensures .0 ∙ z))) (c .relax .ensures .1 .1)
+    (ne-eqb _ _ (λ z. c .before .before .before .before .before .before .before .before .if2 .left (c .before .before .before .before .before .before .before .before .before .wide .ensures .0 ∙ z))) (c .relax .ensures .1 .1)
 
 pub search-spec : {M : Type 1} → statement M
 search-spec =

@@ -36,9 +36,10 @@ offer-requires c κs =
 -- src/lib.rt:129:1
 returns : tie.Need-returns
 returns c =
-    let P = c .before .before .before .before .before .before .before .before .pre in
-    (tried-at (P .1 .0) (c .before .before .before .before .before .first-entry .ensures) (c .offer .ensures .0),
-      (offered-labels (P .1 .1 .0 .0) (P .1 .1 .1 .1 .len-op) (P .1 .1 .1 .0) (c .offer .ensures .0), c .offer .ensures .1))
+    let P = c .before .before .before .before .before .before .before .before .pre in (
+      tried-at (P .1 .0) (c .before .before .before .before .before .first-entry .ensures) (c .offer .ensures .0),
+      (offered-labels (P .1 .1 .0 .0) (P .1 .1 .1 .1 .len-op) (P .1 .1 .1 .0) (c .offer .ensures .0), c .offer .ensures .1),
+    )
 
 -- src/lib.rt:129:1
 returns-2 : tie.Need-returns-2

@@ -1,0 +1,25 @@
+-- The successor's key is made of next place, exit and ticket; with an exit below 2^24 it is below 2^56.
+use native.Mathlib.Omega.{arith}
+use Rattle.bookfit.specs.Join.{nextKey}
+use borrow.Author.Needs.{needs}
+use Rattle.bookfit.proofs.next_key.Statement.{statement}
+use Rattle.bookfit.proofs.next_key.Tie as tie
+
+mul-result : tie.Need-mul-result
+mul-result c = search needs
+
+mul-result-2 : tie.Need-mul-result-2
+mul-result-2 c = search needs
+
+add-result : tie.Need-add-result
+add-result c = search needs
+
+add-result-2 : tie.Need-add-result-2
+add-result-2 c = search needs
+
+returns : tie.Need-returns
+unfolding nextKey
+returns c = (omega arith, omega arith)
+
+pub next-key-spec : {M : Type 1} → statement M
+next-key-spec = tie.close (tie.spec mul-result mul-result-2 add-result add-result-2 returns)

@@ -1,0 +1,67 @@
+-- Keys rise exactly where each is above the one before it: the first i keys rise, and the next is compared with the last of them.
+use Prim.Native.Nat.{_-_, _≤_}
+use mathlib.Core.Path.{refl}
+use native.Mathlib.Omega.{arith}
+use Rattle.laws.specs.Tests.{not-both}
+use Rattle.flat.specs.Flat.{KeysRise}
+use Rattle.bookfit.specs.Rows.{rise-start, rise-next, rise-to, rise-breaks}
+use borrow.Author.Needs.{needs}
+use Rattle.bookfit.proofs.rising.Statement.{statement}
+use Rattle.bookfit.proofs.rising.Tie as tie
+
+abbrev Inv-loop : tie.InvT-loop
+Inv-loop key count i₀ i = (1 ≤ i) × KeysRise key i
+
+abbrev μ-loop : tie.MeasureT-loop
+μ-loop key count i₀ i = count - i
+
+loop-holds : tie.Need-loop-holds Inv-loop μ-loop
+loop-holds c = (omega arith, rise-start _)
+
+sub-if1 : tie.Need-sub-if1 Inv-loop μ-loop
+sub-if1 c = search needs
+
+mul-if1 : tie.Need-mul-if1 Inv-loop μ-loop
+mul-if1 c = search needs
+
+element-copy-out-if1 : tie.Need-element-copy-out-if1 Inv-loop μ-loop
+element-copy-out-if1 c = search needs
+
+mul-if1-2 : tie.Need-mul-if1-2 Inv-loop μ-loop
+mul-if1-2 c = search needs
+
+element-copy-out-if1-2 : tie.Need-element-copy-out-if1-2 Inv-loop μ-loop
+element-copy-out-if1-2 c = search needs
+
+returns : tie.Need-returns Inv-loop μ-loop
+returns c = (λ q. absurd (not-both q refl), λ R. absurd (rise-breaks _ (c .before .before .before .before .loop .i) _ (omega arith) (omega arith) (omega (arith, c .if1 .taken)) R))
+
+add-i : tie.Need-add-i Inv-loop μ-loop
+add-i c = search needs
+
+loop-less : tie.Need-loop-less Inv-loop μ-loop
+loop-less c = search needs
+
+loop-again : tie.Need-loop-again Inv-loop μ-loop
+loop-again c = (omega arith, rise-next _ _ (omega arith) (c .before .before .before .before .loop .inv .1) (c .if1 .left))
+
+returns-2 : tie.Need-returns-2 Inv-loop μ-loop
+returns-2 c = (λ _. rise-to _ _ _ (omega arith) (c .before .loop .inv .1), λ _. refl)
+
+pub rising-spec : {M : Type 1} → statement M
+rising-spec =
+    tie.close
+    (tie.spec
+    Inv-loop
+    μ-loop
+    loop-holds
+    sub-if1
+    mul-if1
+    element-copy-out-if1
+    mul-if1-2
+    element-copy-out-if1-2
+    returns
+    add-i
+    loop-less
+    loop-again
+    returns-2)

@@ -1,0 +1,10 @@
+pub mod Each
+pub mod Search
+pub mod Join
+pub mod Marks
+pub mod Rows
+pub mod Against
+pub mod Keys
+pub mod Bridge
+pub mod Formed
+pub mod Answer

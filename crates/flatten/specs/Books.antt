@@ -1,0 +1,195 @@
+-- A book's rows as arrays of numbers. A row in range is told by its key, its exit and its next place, so that the list which the arrays stand for is
+-- the book's; a row out of range or a used slot past the count is none of a well-formed book.
+use Prim.Native.Nat.{ℕ, _+_, _≤_, _<_}
+use mathlib.Core.Path.{_≡_, refl, sym, subst, _∙_}
+use mathlib.Core.Bool.{Bool, true, false}
+use mathlib.Core.List.{List}
+use native.Mathlib.Omega.{arith}
+use borrow.Author.Count.{below-more}
+use lib.ListN.{length, set, length-set}
+use lib.Seq.{getD-take, length-take-le}
+use Rattle.laws.specs.Tests.{not-both}
+use Rattle.laws.specs.Lists.{at}
+use Rattle.rules.specs.declared.Row.{Row}
+use Rattle.rules.specs.declared.Book.{Book}
+use Rattle.rules.specs.Limits.{day, ticketLimit}
+use Rattle.rules.specs.Map.{Yard}
+use Rattle.rules.specs.Rows.{noRow, rowAt}
+use Rattle.rules.specs.Book.{Ranges, WellFormed, rowsOf, GoodBook}
+use Rattle.flat.specs.Flat.{keyOf, rowOf, rowsIn, Packed}
+use Rattle.flat.specs.Laws.{place-of-key, entry-of-key, ticket-of-key}
+use Rattle.flatten.specs.Lists.{table-take, set-next, set-all}
+
+-- what every row of a well-formed book is within, whatever the map
+pub record InRange (r : Row) : Type 0 where
+  pub entry : r .entry ≤ day
+  pub exit : r .exit ≤ day
+  pub ticket : r .ticket < ticketLimit
+
+-- "Slots past the count hold zeros."
+abbrev pub SpareZero : Book → Type 0
+SpareZero b = (i : ℕ) → b .count ≤ i → i < 1024 → rowAt (b .rows) i ≡ noRow
+
+-- the rows in the arrays, and what the answer r tells
+pub record RowsFlat (b : Book) (K X N : List ℕ) (r : Bool) : Type 0 where
+  pub packed : Packed K X
+  pub rows : r ≡ true → rowsIn K X N (b .count) ≡ rowsOf b
+  pub fits : r ≡ true → b .count ≤ 1024
+  pub bad : r ≡ false → (Y : Yard) → GoodBook Y b → ⊥
+  pub len-key : length K ≡ 1024
+  pub len-exit : length X ≡ 1024
+  pub len-next : length N ≡ 1024
+
+-- the same of the whole book: with the answer true it is well formed exactly when the rows in the arrays are
+pub record BookFlat (b : Book) (K X N : List ℕ) (r : Bool) : Type 0 where
+  pub packed : Packed K X
+  pub fits : r ≡ true → b .count ≤ 1024
+  pub rows : r ≡ true → rowsIn K X N (b .count) ≡ rowsOf b
+  pub good : r ≡ true → (Y : Yard) → WellFormed Y (rowsIn K X N (b .count)) (b .«next_ticket») → GoodBook Y b
+  pub formed : (Y : Yard) → GoodBook Y b → (r ≡ true) × WellFormed Y (rowsIn K X N (b .count)) (b .«next_ticket»)
+  pub len-key : length K ≡ 1024
+  pub len-exit : length X ≡ 1024
+  pub len-next : length N ≡ 1024
+
+-- ---- a row
+
+-- a row's key, exit and next place tell the row
+pub row-told : (r : Row) → InRange r → rowOf (keyOf (r .place) (r .entry) (r .ticket)) (r .exit) (r .next) ≡ r
+row-told r R =
+    let he : r .entry < 16777216 = omega (arith, R .entry) in
+    let ht : r .ticket < 16777216 = omega (arith, R .ticket) in
+    λ x. record {
+      place = place-of-key (r .place) (r .entry) (r .ticket) he ht x;
+      entry = entry-of-key (r .place) (r .entry) (r .ticket) he ht x;
+      ticket = ticket-of-key (r .place) (r .entry) (r .ticket) he ht x;
+      exit = r .exit;
+      next = r .next;
+    }
+
+-- a row whose fields are zero
+pub zero-row : (r : Row) → r .place ≡ 0 → r .entry ≡ 0 → r .ticket ≡ 0 → r .exit ≡ 0 → r .next ≡ 0 → r ≡ noRow
+zero-row r p e t x n = λ i. record { place = p i; entry = e i; ticket = t i; exit = x i; next = n i }
+
+-- a row of a well-formed book is in range
+pub good-range : (Y : Yard) (b : Book) → length (b .rows) ≡ 1024 → GoodBook Y b → (i : ℕ) → i < b .count → InRange (rowAt (b .rows) i)
+good-range Y b l G i h =
+    let long : length (rowsOf b) ≡ b .count = length-take-le (b .count) (b .rows) (omega (arith, G .fits)) in
+    let R : Ranges Y (b .«next_ticket») (rowAt (b .rows) i) = subst (Ranges Y (b .«next_ticket»)) (getD-take (b .count) (b .rows) i noRow h) (G .formed .ranges i (omega arith)) in
+    record { entry = R .entry; exit = R .exit; ticket = omega (arith, R .ticket-to, G .formed .ticket-to) }
+
+-- ---- the loop over the rows
+
+-- the first n rows of the book are in range and stand in the arrays
+pub record RowsTo (b : Book) (K X N : List ℕ) (n : ℕ) : Type 0 where
+  pub keys : (i : ℕ) → i < n → at K i ≡ keyOf ((rowAt (b .rows) i) .place) ((rowAt (b .rows) i) .entry) ((rowAt (b .rows) i) .ticket)
+  pub exits : (i : ℕ) → i < n → at X i ≡ (rowAt (b .rows) i) .exit
+  pub nexts : (i : ℕ) → i < n → at N i ≡ (rowAt (b .rows) i) .next
+  pub ranges : (i : ℕ) → i < n → InRange (rowAt (b .rows) i)
+  pub packed : Packed K X
+  pub len-key : length K ≡ 1024
+  pub len-exit : length X ≡ 1024
+  pub len-next : length N ≡ 1024
+
+module _ (b : Book) where
+  pub rows-none : (K X N : List ℕ) → length K ≡ 1024 → length X ≡ 1024 → length N ≡ 1024 → ((i : ℕ) → at K i ≡ 0) → ((i : ℕ) → at X i ≡ 0) → RowsTo b K X N 0
+  rows-none K X N k x n zk zx = record {
+    keys = λ i h. absurd (omega arith);
+    exits = λ i h. absurd (omega arith);
+    nexts = λ i h. absurd (omega arith);
+    ranges = λ i h. absurd (omega arith);
+    packed = record { keys = λ i. omega (arith, zk i); exits = λ i. omega (arith, zx i) };
+    len-key = k;
+    len-exit = x;
+    len-next = n;
+  }
+
+  pub rows-next : (K X N : List ℕ) (i key : ℕ) → RowsTo b K X N i → i < 1024 → InRange (rowAt (b .rows) i) → (rowAt (b .rows) i) .place < 256
+      → key ≡ keyOf ((rowAt (b .rows) i) .place) ((rowAt (b .rows) i) .entry) ((rowAt (b .rows) i) .ticket)
+      → RowsTo b (set K i key) (set X i ((rowAt (b .rows) i) .exit)) (set N i ((rowAt (b .rows) i) .next)) (i + 1)
+  rows-next K X N i key P h R p e =
+      record {
+        keys = set-next (λ j. keyOf ((rowAt (b .rows) j) .place) ((rowAt (b .rows) j) .entry) ((rowAt (b .rows) j) .ticket)) K i key (omega (arith, P .len-key)) e (P .keys);
+        exits = set-next (λ j. (rowAt (b .rows) j) .exit) X i _ (omega (arith, P .len-exit)) refl (P .exits);
+        nexts = set-next (λ j. (rowAt (b .rows) j) .next) N i _ (omega (arith, P .len-next)) refl (P .nexts);
+        ranges = below-more (λ j. InRange (rowAt (b .rows) j)) i (P .ranges) R;
+        packed = record {
+          keys = set-all (λ x. x < 72057594037927936) K i key (P .packed .keys) (omega (arith, R .entry, R .ticket));
+          exits = set-all (λ x. x < 16777216) X i _ (P .packed .exits) (omega (arith, R .exit));
+        };
+        len-key = length-set K i _ ∙ P .len-key;
+        len-exit = length-set X i _ ∙ P .len-exit;
+        len-next = length-set N i _ ∙ P .len-next;
+      }
+
+  module _ (l : length (b .rows) ≡ 1024) {K X N : List ℕ} where
+    -- all rows are written
+    pub rows-all : RowsTo b K X N (b .count) → b .count ≤ 1024 → RowsFlat b K X N true
+    rows-all P h = record {
+      packed = P .packed;
+      rows = λ _.
+          table-take (b .count) (λ i. rowOf (at K i) (at X i) (at N i)) (b .rows) noRow (omega arith)
+          (λ i g. rw (P .keys i g, P .exits i g, P .nexts i g) (row-told (rowAt (b .rows) i) (P .ranges i g)));
+      fits = λ _. h;
+      bad = λ q. absurd (not-both refl q);
+      len-key = P .len-key;
+      len-exit = P .len-exit;
+      len-next = P .len-next;
+    }
+
+    refused : {n : ℕ} → RowsTo b K X N n → ((Y : Yard) → GoodBook Y b → ⊥) → RowsFlat b K X N false
+    refused P bad = record {
+      packed = P .packed;
+      rows = λ q. absurd (not-both q refl);
+      fits = λ q. absurd (not-both q refl);
+      bad = λ _. bad;
+      len-key = P .len-key;
+      len-exit = P .len-exit;
+      len-next = P .len-next;
+    }
+
+    -- a row is out of range
+    pub rows-bad : {n : ℕ} → RowsTo b K X N n → (i : ℕ) → i < b .count → (InRange (rowAt (b .rows) i) → ⊥) → RowsFlat b K X N false
+    rows-bad P i h f = refused P (λ Y G. f (good-range Y b l G i h))
+
+    -- the count is out of range
+    pub rows-many : {n : ℕ} → RowsTo b K X N n → 1024 < b .count → RowsFlat b K X N false
+    rows-many P h = refused P (λ Y G. omega (arith, G .fits))
+
+-- ---- the loop over the slots past the count
+
+-- those before slot i hold zeros
+pub record ZeroTo (b : Book) (i : ℕ) : Type 0 where
+  pub zeros : (k : ℕ) → b .count ≤ k → k < i → rowAt (b .rows) k ≡ noRow
+
+pub zero-none : (b : Book) → ZeroTo b (b .count)
+zero-none b = record { zeros = λ k a h. absurd (omega arith) }
+
+pub zero-next : (b : Book) (i : ℕ) → ZeroTo b i → rowAt (b .rows) i ≡ noRow → ZeroTo b (i + 1)
+zero-next b i Z e = record { zeros = λ k a h. below-more (λ j. b .count ≤ j → rowAt (b .rows) j ≡ noRow) i (λ j h c. Z .zeros j c h) (λ _. e) k h a }
+
+-- ---- the whole book
+
+module _ {b : Book} {K X N : List ℕ} {r : Bool} (F : RowsFlat b K X N r) where
+  pub book-bad : r ≡ false → BookFlat b K X N false
+  book-bad e = record {
+    packed = F .packed;
+    fits = λ q. absurd (not-both q refl);
+    rows = λ q. absurd (not-both q refl);
+    good = λ q. absurd (not-both q refl);
+    formed = λ Y G. absurd (F .bad e Y G);
+    len-key = F .len-key;
+    len-exit = F .len-exit;
+    len-next = F .len-next;
+  }
+
+  pub book-told : r ≡ true → (s : Bool) → (s ≡ true → SpareZero b) × (SpareZero b → s ≡ true) → BookFlat b K X N s
+  book-told e s S = record {
+    packed = F .packed;
+    fits = λ _. F .fits e;
+    rows = λ _. F .rows e;
+    good = λ q Y W. record { fits = F .fits e; spare = S .0 q; formed = subst (λ rows. WellFormed Y rows (b .«next_ticket»)) (F .rows e) W };
+    formed = λ Y G. (S .1 (G .spare), subst (λ rows. WellFormed Y rows (b .«next_ticket»)) (sym (F .rows e)) (G .formed));
+    len-key = F .len-key;
+    len-exit = F .len-exit;
+    len-next = F .len-next;
+  }

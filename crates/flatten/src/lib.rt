@@ -1,0 +1,152 @@
+// Turns a map and a book, as they are handed over by value, into the arrays of numbers that all below works on.
+use rules::Book;
+use rules::Map;
+use rules::Row;
+ghost use mathlib.Core.Path.{_≡_};
+ghost use mathlib.Core.Bool.{true, false};
+ghost use Prim.Native.Nat.{ℕ, _≤_, _<_};
+ghost use lib.ListN.{length};
+ghost use Rattle.laws.specs.Lists.{at};
+ghost use Rattle.rules.specs.Rows.{noRow};
+ghost use Rattle.flat.specs.Flat.{keyOf};
+ghost use Rattle.flatten.specs.Maps.{PlacesFlat, LinksFlat};
+ghost use Rattle.flatten.specs.Books.{InRange, SpareZero, RowsFlat, BookFlat};
+
+// capacity and duration of each place
+pub fn flat_places(m: Map, cap: &mut [u8; 256], dur: &mut [u32; 256])
+    requires { ⌜ length (now cap) ≡ 256 ⌝ }
+    requires { ⌜ length (now dur) ≡ 256 ⌝ }
+    ensures { λ _. ⌜ PlacesFlat m (now (cap .exit)) (now (dur .exit)) ⌝ }
+{
+    let mut p = 0;
+    while p < 256 {
+        let place = m.places[p];
+        cap[p] = place.capacity;
+        dur[p] = place.duration as u32;
+        p += 1;
+    }
+}
+
+// where each link goes from and to
+pub fn flat_links(m: Map, from: &mut [u8; 1024], to: &mut [u8; 1024])
+    requires { ⌜ length (now from) ≡ 1024 ⌝ }
+    requires { ⌜ length (now to) ≡ 1024 ⌝ }
+    ensures { λ _. ⌜ LinksFlat m (now (from .exit)) (now (to .exit)) ⌝ }
+{
+    let mut j = 0;
+    while j < 1024 {
+        let link = m.links[j];
+        from[j] = link.from;
+        to[j] = link.to;
+        j += 1;
+    }
+}
+
+// an entry and an exit of the day, and a ticket that can be issued
+fn row_in_range(r: Row) -> bool
+    ensures { λ t. ⌜ (t ≡ true → InRange r) × (InRange r → t ≡ true) ⌝ }
+{
+    if r.entry > 86400 {
+        return false;
+    }
+    if r.exit > 86400 {
+        return false;
+    }
+    r.ticket < 1000000
+}
+
+// a row's key as one number, and that its place is a byte
+fn row_key(r: Row) -> u64
+    ensures { λ k. ⌜ (k ≡ keyOf (r .place) (r .entry) (r .ticket)) × (r .place < 256) ⌝ }
+{
+    (r.place as u64) * 281474976710656 + (r.entry as u64) * 16777216 + (r.ticket as u64)
+}
+
+// key, exit and next place of each row that the count names; false where the count or a row is out of range
+pub fn flat_rows(
+    b: Book,
+    key: &mut [u64; 1024],
+    exit: &mut [u32; 1024],
+    next: &mut [u8; 1024],
+) -> bool
+    requires { ⌜ length (now key) ≡ 1024 ⌝ }
+    requires { ⌜ length (now exit) ≡ 1024 ⌝ }
+    requires { ⌜ length (now next) ≡ 1024 ⌝ }
+    requires { ⌜ ((i : ℕ) → at (now key) i ≡ 0) ⌝ }
+    requires { ⌜ ((i : ℕ) → at (now exit) i ≡ 0) ⌝ }
+    requires { ⌜ ((i : ℕ) → at (now next) i ≡ 0) ⌝ }
+    ensures { λ r. ⌜ RowsFlat b (now (key .exit)) (now (exit .exit)) (now (next .exit)) r ⌝ }
+{
+    let n = b.count;
+    if n > 1024 {
+        return false;
+    }
+    let mut i = 0;
+    while i < n {
+        let r = b.rows[i];
+        if !row_in_range(r) {
+            return false;
+        }
+        key[i] = row_key(r);
+        exit[i] = r.exit;
+        next[i] = r.next;
+        i += 1;
+    }
+    true
+}
+
+// all fields zero
+fn is_zero(r: Row) -> bool
+    ensures { λ t. ⌜ (t ≡ true → r ≡ noRow) × (r ≡ noRow → t ≡ true) ⌝ }
+{
+    if r.place != 0 {
+        return false;
+    }
+    if r.entry != 0 {
+        return false;
+    }
+    if r.ticket != 0 {
+        return false;
+    }
+    if r.exit != 0 {
+        return false;
+    }
+    r.next == 0
+}
+
+// the slots past the count hold zeros
+pub fn spare_zero(b: Book) -> bool
+    requires { ⌜ b .count ≤ 1024 ⌝ }
+    ensures { λ r. ⌜ (r ≡ true → SpareZero b) × (SpareZero b → r ≡ true) ⌝ }
+{
+    let mut i = b.count;
+    while i < 1024 {
+        let r = b.rows[i];
+        if !is_zero(r) {
+            return false;
+        }
+        i += 1;
+    }
+    true
+}
+
+// The book's rows as arrays; false where it cannot be well formed, whatever the map.
+pub fn flat_book(
+    b: Book,
+    key: &mut [u64; 1024],
+    exit: &mut [u32; 1024],
+    next: &mut [u8; 1024],
+) -> bool
+    requires { ⌜ length (now key) ≡ 1024 ⌝ }
+    requires { ⌜ length (now exit) ≡ 1024 ⌝ }
+    requires { ⌜ length (now next) ≡ 1024 ⌝ }
+    requires { ⌜ ((i : ℕ) → at (now key) i ≡ 0) ⌝ }
+    requires { ⌜ ((i : ℕ) → at (now exit) i ≡ 0) ⌝ }
+    requires { ⌜ ((i : ℕ) → at (now next) i ≡ 0) ⌝ }
+    ensures { λ r. ⌜ BookFlat b (now (key .exit)) (now (exit .exit)) (now (next .exit)) r ⌝ }
+{
+    if !flat_rows(b, key, exit, next) {
+        return false;
+    }
+    spare_zero(b)
+}

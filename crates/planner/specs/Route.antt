@@ -1,0 +1,130 @@
+-- The answer of a search as a path of windows, and the rows of a path.
+use Prim.Native.Nat.{ℕ, zero, suc, _+_, _-_, _≤_, _<_}
+use mathlib.Core.Path.{_≡_, refl, sym, ap, subst, subst₂, _∙_}
+use mathlib.Core.Logic.{_⊎_, inl, inr, ⊎-elim}
+use mathlib.Core.List.{List, [], _∷_}
+use native.Mathlib.Omega.{arith}
+use lib.ListN.{length, getD, take}
+use lib.Seq.{getD-take, length-take-le}
+use Rattle.laws.specs.Lists.{at}
+use Rattle.rules.specs.declared.Row.{Row}
+use Rattle.rules.specs.Map.{Yard}
+use Rattle.rules.specs.Plan.{Stay, Permitted, runRows, stayRow, arrival}
+use Rattle.rules.specs.Chosen.{Chosen}
+use Rattle.rules.specs.Rows.{load, rowAt, noRow}
+use Rattle.flat.specs.Flat.{yardIn}
+use Rattle.settle.specs.Search.{Answer}
+use Rattle.search.specs.Offers.{BeginsAt, Row1}
+use Rattle.search.specs.Relax.{nextBy}
+use Rattle.search.specs.Lanes.{Lanes, atDest}
+use Rattle.search.specs.Trail.{Trailed, trailed-fits}
+use Rattle.planner.specs.Choice.{planOf, stayOf, OnDay, found-chosen, found-good}
+
+-- r windows of path are the chosen plan; 0 where no plan is permitted
+pub record Routed (Y : Yard) (rows : List Row) (start dest s m : ℕ) (D P lab path : List ℕ) (r : ℕ) : Type 0 where
+  pub few : r ≤ 1280
+  pub none : r ≡ 0 → (plan : List Stay) → Permitted Y rows start dest s plan → ⊥
+  pub chosen : 0 < r → Chosen Y rows start dest s (planOf D P lab (take r path))
+  pub on-day : OnDay m lab (take r path)
+  pub long : length path ≡ 1280
+
+pub begins-as : {S E : List ℕ} {a b a′ b′ s d r : ℕ} → a ≡ a′ → b ≡ b′ → BeginsAt S E a b s d r → BeginsAt S E a′ b′ s d r
+begins-as {S} {E} {s = s} {d = d} {r = r} e f B = subst₂ (λ x y. BeginsAt S E x y s d r) e f B
+
+pub row-as : {S E : List ℕ} {a b a′ b′ d : ℕ} → a ≡ a′ → b ≡ b′ → Row1 S E a b d → Row1 S E a′ b′ d
+row-as {S} {E} {d = d} e f R = subst₂ (λ x y. Row1 S E x y d) e f R
+
+pub routed-none : {Y : Yard} {rows : List Row} {start dest s m : ℕ} {D P lab path : List ℕ} → ((plan : List Stay) → Permitted Y rows start dest s plan → ⊥) → length path ≡ 1280
+    → Routed Y rows start dest s m D P lab path 0
+routed-none f l = record {
+  few = omega arith;
+  none = λ _. f;
+  chosen = λ h. absurd (omega arith);
+  on-day = record { window = λ i h. absurd (omega arith); label = λ i h. absurd (omega arith) };
+  long = l;
+}
+
+pub routed-found : {C D F T H N : List ℕ} {n k : ℕ} {rows : List Row} {c : ℕ} {P S E I : List ℕ} {m : ℕ} (L : Lanes C D F T H N n k rows c P S E I m)
+    → ((p t : ℕ) → p < yardIn C D n F T k .places → load rows p t ≤ yardIn C D n F T k .cap p)
+    → (start dest s : ℕ) → start < n → dest < n → {src : ℕ} → s ≤ 86400 → BeginsAt S E (at I start) (at I (start + 1)) s (at D start) src → src < 1280
+    → {lab bef : List ℕ} {g : ℕ} → Answer m (nextBy (yardIn C D n F T k) rows P S E) (atDest P dest) src s lab bef g → g < 1280
+    → {path : List ℕ} {r : ℕ} → Trailed lab bef g r path → Routed (yardIn C D n F T k) rows start dest s m D P lab path r
+routed-found L booked start dest s a b sh B h A gh T = record {
+  few = trailed-fits gh T;
+  none = λ e. absurd (omega (arith, T .some));
+  chosen = λ _. found-chosen L booked start dest s a b sh B h A gh (T .trail);
+  on-day = found-good L booked start dest s a b sh B h A gh (T .trail);
+  long = T .long;
+}
+
+-- ---- the rows of a path
+
+module _ (D P lab : List ℕ) where
+  pub plan-long : (path : List ℕ) → length (planOf D P lab path) ≡ length path
+  plan-long [] = refl
+  plan-long (w ∷ []) = refl
+  plan-long (w ∷ (v ∷ path)) = ap suc (plan-long (v ∷ path))
+
+  pub run-long : (t : ℕ) (path : List ℕ) → length (runRows t (planOf D P lab path)) ≡ length path
+  run-long t [] = refl
+  run-long t (w ∷ []) = refl
+  run-long t (w ∷ (v ∷ [])) = refl
+  run-long t (w ∷ (v ∷ (u ∷ path))) = ap suc (run-long t (v ∷ (u ∷ path)))
+
+  abbrev pub goesRow : ℕ → ℕ → ℕ → Row
+  goesRow t w v = record { place = at P w; entry = at lab w; ticket = t; exit = at lab v; next = at P v }
+
+  abbrev pub lastRow : ℕ → ℕ → Row
+  lastRow t w = record { place = at P w; entry = at lab w; ticket = t; exit = at lab w + at D (at P w); next = at P w }
+
+  pub row-goes : (t : ℕ) (path : List ℕ) (k : ℕ) → suc k < length path → rowAt (runRows t (planOf D P lab path)) k ≡ goesRow t (at path k) (at path (suc k))
+  row-goes t [] k h = absurd (omega arith)
+  row-goes t (w ∷ []) k h = absurd (omega arith)
+  row-goes t (w ∷ (v ∷ [])) zero h = refl
+  row-goes t (w ∷ (v ∷ [])) (suc k) h = absurd (omega arith)
+  row-goes t (w ∷ (v ∷ (u ∷ path))) zero h = refl
+  row-goes t (w ∷ (v ∷ (u ∷ path))) (suc k) h = row-goes t (v ∷ (u ∷ path)) k (omega arith)
+
+  pub row-last : (t : ℕ) (path : List ℕ) (k : ℕ) → suc k ≡ length path → rowAt (runRows t (planOf D P lab path)) k ≡ lastRow t (at path k)
+  row-last t [] k h = absurd (omega arith)
+  row-last t (w ∷ []) zero h = refl
+  row-last t (w ∷ []) (suc k) h = absurd (omega arith)
+  row-last t (w ∷ (v ∷ [])) zero h = absurd (omega arith)
+  row-last t (w ∷ (v ∷ [])) (suc k) h = row-last t (v ∷ []) k (omega arith)
+  row-last t (w ∷ (v ∷ (u ∷ path))) zero h = absurd (omega arith)
+  row-last t (w ∷ (v ∷ (u ∷ path))) (suc k) h = row-last t (v ∷ (u ∷ path)) k (omega arith)
+
+  -- the last row's exit is the arrival
+  pub last-arrives : (path : List ℕ) (k : ℕ) → suc k ≡ length path → arrival (planOf D P lab path) ≡ at lab (at path k) + at D (at P (at path k))
+  unfolding arrival
+  last-arrives [] k h = absurd (omega arith)
+  last-arrives (w ∷ []) zero h = refl
+  last-arrives (w ∷ []) (suc k) h = absurd (omega arith)
+  last-arrives (w ∷ (v ∷ [])) zero h = absurd (omega arith)
+  last-arrives (w ∷ (v ∷ [])) (suc k) h = last-arrives (v ∷ []) k (omega arith)
+  last-arrives (w ∷ (v ∷ (u ∷ path))) zero h = absurd (omega arith)
+  last-arrives (w ∷ (v ∷ (u ∷ path))) (suc k) h = last-arrives (v ∷ (u ∷ path)) k (omega arith)
+
+-- the row at k of the first count windows of a path
+pub record PathFits (D P lab path : List ℕ) (count : ℕ) : Type 0 where
+  pub few : count ≤ 1280
+  pub long : length path ≡ 1280
+  pub window : (i : ℕ) → i < count → at path i < 1280
+  pub label : (i : ℕ) → i < count → at lab (at path i) ≤ 86400
+  pub dur : (i : ℕ) → i < count → at D (at P (at path i)) ≤ 3600
+
+module _ (D P lab path : List ℕ) (count k t : ℕ) (F : PathFits D P lab path count) (h : k < count) where
+  long-take : length (take count path) ≡ count
+  long-take = length-take-le count path (omega (arith, F .few, F .long))
+
+  here : at (take count path) k ≡ at path k
+  here = getD-take count path k 0 h
+
+  pub step-goes : k + 1 < count → goesRow D P lab t (at path k) (at path (k + 1)) ≡ rowAt (runRows t (planOf D P lab (take count path))) k
+  step-goes g =
+      let e : suc k ≡ k + 1 = omega arith in
+      let z : at (take count path) (suc k) ≡ at path (k + 1) = ap (at (take count path)) e ∙ getD-take count path (k + 1) 0 g in
+      sym (row-goes D P lab t (take count path) k (omega (arith, long-take)) ∙ (λ i. goesRow D P lab t (here i) (z i)))
+
+  pub step-last : count ≤ k + 1 → lastRow D P lab t (at path k) ≡ rowAt (runRows t (planOf D P lab (take count path))) k
+  step-last g = sym (row-last D P lab t (take count path) k (omega (arith, long-take)) ∙ ap (lastRow D P lab t) here)

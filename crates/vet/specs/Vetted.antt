@@ -1,0 +1,51 @@
+-- What vetting says: the map breaks a rule, or the book is not well formed on it, or both are sound and all free windows are known.
+use Prim.Native.Nat.{ℕ, _≤_, _<_}
+use mathlib.Core.Path.{_≡_}
+use mathlib.Core.List.{List}
+use mathlib.Core.Bool.{Bool, true, false}
+use native.Mathlib.Omega.{arith}
+use Rattle.laws.specs.Tests.{not-both}
+use Rattle.rules.specs.Map.{MapRules}
+use Rattle.rules.specs.Book.{WellFormed}
+use Rattle.flat.specs.Flat.{placesIn, linksIn, yardIn, rowsIn}
+use Rattle.flat.specs.Laws.{rows-long}
+use Rattle.mapfit.specs.Fits.{MapFits}
+use Rattle.bookfit.specs.Answer.{BookFits}
+use Rattle.search.specs.Lanes.{Lanes}
+
+-- 1,282 for the map, 1,281 for the book, else the number of windows
+pub record Vetted (C D F T H L : List ℕ) (n k : ℕ) (K X N : List ℕ) (count t : ℕ) (P S E I : List ℕ) (r : ℕ) : Type 0 where
+  pub bound : r ≤ 1282
+  pub no-map : r ≡ 1282 → MapRules (placesIn C D n) (linksIn F T k) → ⊥
+  pub map : r < 1282 → MapRules (placesIn C D n) (linksIn F T k)
+  pub no-book : r ≡ 1281 → WellFormed (yardIn C D n F T k) (rowsIn K X N count) t → ⊥
+  pub formed : r < 1281 → WellFormed (yardIn C D n F T k) (rowsIn K X N count) t
+  pub lanes : r < 1281 → Lanes C D F T H L n k (rowsIn K X N count) count P S E I r
+
+module _ {C D F T H L : List ℕ} {n k : ℕ} {b : Bool} (M : MapFits n k C D F T H L b) where
+  pub vet-map : (K X N : List ℕ) (count t : ℕ) (P S E I : List ℕ) → b ≡ false → Vetted C D F T H L n k K X N count t P S E I 1282
+  vet-map K X N count t P S E I e = record {
+    bound = omega arith;
+    no-map = λ _ R. not-both (M .all R) e;
+    map = λ h. absurd (omega arith);
+    no-book = λ h. absurd (omega arith);
+    formed = λ h. absurd (omega arith);
+    lanes = λ h. absurd (omega arith);
+  }
+
+  pub vet-book : {K X N : List ℕ} {count t r : ℕ} {Q S E P I : List ℕ} → b ≡ true → BookFits C D n F T k K X N count t r Q S E P I → Vetted C D F T H L n k K X N count t P S E I r
+  vet-book {K} {X} {N} {count} e B = record {
+    bound = omega (arith, B .bound);
+    no-map = λ h. absurd (omega (arith, B .bound));
+    map = λ _. M .kept e;
+    no-book = B .bad;
+    formed = B .formed;
+    lanes = λ h. record {
+      rules = M .kept e;
+      chained = M .chained e;
+      few-rows = omega (arith, B .formed h .few, rows-long K X N count);
+      windows = B .windows h;
+      by-place = B .by-place h;
+      few = omega arith;
+    };
+  }
