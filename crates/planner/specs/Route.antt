@@ -2,15 +2,18 @@
 use Prim.Native.Nat.{ℕ, zero, suc, _+_, _-_, _≤_, _<_}
 use mathlib.Core.Path.{_≡_, refl, sym, ap, subst, subst₂, _∙_}
 use mathlib.Core.Logic.{_⊎_, inl, inr, ⊎-elim}
-use mathlib.Core.List.{List, [], _∷_}
+use mathlib.Core.List.{List, [], _∷_, _++_}
 use native.Mathlib.Omega.{arith}
 use lib.ListN.{length, getD, take}
-use lib.Seq.{getD-take, length-take-le}
+use lib.Seq.{getD-take, length-take-le, take-suc, take-all}
+use native.Mathlib.Numerals.{add-one}
 use Rattle.laws.specs.Lists.{at}
 use Rattle.rules.specs.declared.Row.{Row}
 use Rattle.rules.specs.Map.{Yard}
 use Rattle.rules.specs.Plan.{Stay, Permitted, runRows, stayRow, arrival}
 use Rattle.rules.specs.Chosen.{Chosen}
+use Rattle.rules.specs.Answer.{written}
+use Rattle.wire.specs.Written.{PutAt, written-next}
 use Rattle.rules.specs.Rows.{load, rowAt, noRow}
 use Rattle.flat.specs.Flat.{yardIn}
 use Rattle.settle.specs.Search.{Answer}
@@ -128,3 +131,30 @@ module _ (D P lab path : List ℕ) (count k t : ℕ) (F : PathFits D P lab path 
 
   pub step-last : count ≤ k + 1 → lastRow D P lab t (at path k) ≡ rowAt (runRows t (planOf D P lab (take count path))) k
   step-last g = sym (row-last D P lab t (take count path) k (omega (arith, long-take)) ∙ ap (lastRow D P lab t) here)
+
+-- ---- the rows written one after the other
+
+pub record Writing (R : List Row) (was : List ℕ) (count j : ℕ) (out : List ℕ) : Type 0 where
+  pub within : j ≤ count
+  pub holds : out ≡ written (take j R) was
+  pub long : length out ≡ length was
+
+pub writing-start : (R : List Row) (was : List ℕ) (count : ℕ) → Writing R was count 0 was
+writing-start R was count = record { within = omega arith; holds = refl; long = refl }
+
+pub writing-next : {R : List Row} {was : List ℕ} {count j : ℕ} {out out′ : List ℕ} {r : Row} → length R ≡ count → j < count → r ≡ rowAt R j → Writing R was count j out → PutAt r j out out′ → Writing R was count (j + 1) out′
+writing-next {R} {was} {count} {j} {out} {out′} {r} l h e I P =
+    let n : length (take j R) ≡ j = length-take-le j R (omega arith) in
+    let more : take (j + 1) R ≡ take j R ++ (r ∷ []) = ap (λ n. take n R) (add-one j) ∙ take-suc R j noRow (omega arith) ∙ ap (λ (x : Row). take j R ++ (x ∷ [])) (sym e) in
+    record {
+      within = omega arith;
+      holds = written-next (take j R) was P n (I .holds) ∙ ap (λ (x : List Row). written x was) (sym more);
+      long = P .long ∙ I .long;
+    }
+
+pub writing-end : {R : List Row} {was : List ℕ} {count j : ℕ} {out : List ℕ} → length R ≡ count → count ≤ j → Writing R was count j out → out ≡ written R was
+writing-end {R} {was} {count} {j} l h I = I .holds ∙ ap (λ (x : List Row). written x was) (take-all j R (omega arith))
+
+-- the rows of the first windows of a path
+pub path-rows : (D P lab path : List ℕ) (count t : ℕ) → PathFits D P lab path count → length (runRows t (planOf D P lab (take count path))) ≡ count
+path-rows D P lab path count t F = run-long D P lab t (take count path) ∙ length-take-le count path (omega (arith, F .few, F .long))

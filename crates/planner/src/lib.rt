@@ -6,6 +6,7 @@ ghost use lib.ListN.{length, take};
 ghost use Rattle.laws.specs.Lists.{at};
 ghost use Rattle.rules.specs.Rows.{rowAt, load};
 ghost use Rattle.rules.specs.Plan.{runRows};
+ghost use Rattle.rules.specs.Answer.{written};
 ghost use Rattle.flat.specs.Flat.{rowsIn, yardIn};
 ghost use Rattle.search.specs.Lanes.{Lanes};
 ghost use Rattle.planner.specs.Choice.{planOf};
@@ -131,4 +132,25 @@ pub fn route(
         return 0;
     }
     search::trail(&before, label, g, path)
+}
+
+// The rows of a path over the first records of the caller's list, with ticket 0.
+pub fn write_plan(
+    dur: &[u32; 256],
+    place: &[u8; 1280],
+    label: &[u32; 1280],
+    path: &[u16; 1280],
+    count: usize,
+    out: &mut [u8],
+)
+    requires { ⌜ PathFits (now dur) (now place) (now label) (now path) count ⌝ }
+    requires { ⌜ 11 * count ≤ length (now out) ⌝ }
+    ensures { λ _. ⌜ now (out .exit) ≡ written (runRows 0 (planOf (now (dur .entry)) (now (place .entry)) (now (label .entry)) (take count (now (path .entry))))) (now (out .entry)) ⌝ }
+{
+    let mut j: usize = 0;
+    while j < count {
+        let r = step_at(dur, place, label, path, count, j, 0);
+        wire::put_at(r, j, out);
+        j += 1;
+    }
 }

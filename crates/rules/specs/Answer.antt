@@ -99,18 +99,20 @@ PlanRefused n was out r = Planning n 0 0 was out r
 abbrev pub PlanDone : List Stay → List ℕ → List ℕ → Planned → Type 0
 PlanDone plan was out r = Planning 0 (arrival plan) (length plan) (written (runRows 0 plan) was) out r
 
--- "Order: plan 1, 2, 3, 4, 5, 6"
-module _ (map-ok book-ok : Type 0) (Y : Yard) (rows : List Row) (start dest s : ℕ) (was out : List ℕ) (r : Planned) where
-  abbrev pub PlanSays : Type 0
-  PlanSays =
-      Unless map-ok (PlanRefused 1 was out r)
-      (Unless book-ok (PlanRefused 2 was out r)
-      (Unless ((start < Y .places) × (dest < Y .places)) (PlanRefused 3 was out r)
+-- "Order: plan 1, 2, 3, 4, 5, 6": first what is said where map and book are sound
+module _ (Y : Yard) (rows : List Row) (start dest s : ℕ) (was out : List ℕ) (r : Planned) where
+  abbrev pub PlanSound : Type 0
+  PlanSound =
+      Unless ((start < Y .places) × (dest < Y .places)) (PlanRefused 3 was out r)
       (Unless (s ≤ day) (PlanRefused 4 was out r)
       (Unless ((plan : List Stay) × Permitted Y rows start dest s plan) (PlanRefused 5 was out r)
       ((plan : List Stay) × Chosen Y rows start dest s plan
       × Unless (length plan ≤ records was) (PlanRefused 6 was out r)
-      (PlanDone plan was out r))))))
+      (PlanDone plan was out r))))
+
+module _ (map-ok book-ok : Type 0) (Y : Yard) (rows : List Row) (start dest s : ℕ) (was out : List ℕ) (r : Planned) where
+  abbrev pub PlanSays : Type 0
+  PlanSays = Unless map-ok (PlanRefused 1 was out r) (Unless book-ok (PlanRefused 2 was out r) (PlanSound Y rows start dest s was out r))
 
 abbrev pub PlanIs : Map → Book → ℕ → ℕ → ℕ → List ℕ → List ℕ → Planned → Type 0
 PlanIs m b start dest s was out r = PlanSays (GoodMap m) (GoodBook (mapYard m) b) (mapYard m) (rowsOf b) start dest s was out r
@@ -239,16 +241,18 @@ pub record CursorFits (Y : Yard) (k : Key) : Type 0 where
   pub entry : k .entry ≤ day
   pub ticket : k .ticket < ticketLimit
 
--- "page 1, 2, 10, 11, 6"
-module _ (map-ok book-ok : Type 0) (Y : Yard) (rows : List Row) (size : ℕ) (k : Key) (was out : List ℕ) (r : Paged) where
-  abbrev pub PageSays : Type 0
-  PageSays =
-      Unless map-ok (PageRefused 1 was out r)
-      (Unless book-ok (PageRefused 2 was out r)
-      (Unless ((1 ≤ size) × (size ≤ pageLimit)) (PageRefused 10 was out r)
+-- "page 1, 2, 10, 11, 6": first what is said where map and book are sound
+module _ (Y : Yard) (rows : List Row) (size : ℕ) (k : Key) (was out : List ℕ) (r : Paged) where
+  abbrev pub PageSound : Type 0
+  PageSound =
+      Unless ((1 ≤ size) × (size ≤ pageLimit)) (PageRefused 10 was out r)
       (Unless (CursorFits Y k) (PageRefused 11 was out r)
       (Unless (size ≤ records was) (PageRefused 6 was out r)
-      (PageDone rows size k was out r)))))
+      (PageDone rows size k was out r)))
+
+module _ (map-ok book-ok : Type 0) (Y : Yard) (rows : List Row) (size : ℕ) (k : Key) (was out : List ℕ) (r : Paged) where
+  abbrev pub PageSays : Type 0
+  PageSays = Unless map-ok (PageRefused 1 was out r) (Unless book-ok (PageRefused 2 was out r) (PageSound Y rows size k was out r))
 
 abbrev pub PageIs : Map → Book → ℕ → Key → List ℕ → List ℕ → Paged → Type 0
 PageIs m b size k was out r = PageSays (GoodMap m) (GoodBook (mapYard m) b) (mapYard m) (rowsOf b) size k was out r
