@@ -4,7 +4,7 @@ use mathlib.Core.Path.{_≡_, refl, sym, ap, subst, _∙_}
 use mathlib.Core.List.{List, [], _∷_, List·Memᴰ}
 use mathlib.Core.List.List·Memᴰ.{List·Memᴰ·head, List·Memᴰ·tail}
 use native.Mathlib.Omega.{arith}
-use lib.ListN.{length, getD}
+use lib.ListN.{length, getD, replicate}
 
 -- the number at an index, 0 past the end
 abbrev pub at : List ℕ → ℕ → ℕ
@@ -36,3 +36,9 @@ module _ {A : Type 0} where
   index-mem d [] i h = absurd (omega arith)
   index-mem d (x ∷ xs) zero h = List·Memᴰ·head refl
   index-mem d (x ∷ xs) (suc i) h = List·Memᴰ·tail (index-mem d xs i (omega arith))
+
+-- an array filled with zeros
+pub zeros : (n i : ℕ) → at (replicate n 0) i ≡ 0
+zeros zero i = refl
+zeros (suc n) zero = refl
+zeros (suc n) (suc i) = zeros n i
