@@ -47,26 +47,31 @@ module _ (f : Row → Bool) where
   pub kept-none : (rows out : List Row) → out ≡ replicate rowLimit noRow → Kept rows out 0 0
   kept-none rows out e = record { stand = e; counts = refl }
 
-  module _ {rows out : List Row} {k i : ℕ} (K : Kept rows out k i) (h : i < length rows) where
-    pub kept-le : k ≤ i
-    kept-le = omega (arith, K .counts, keep-le f (take i rows), length-take-le i rows (omega arith))
+  module _ {rows out : List Row} {k i : ℕ} (K : Kept rows out k i) where
+    pub kept-le : i ≤ length rows → k ≤ i
+    kept-le h = omega (arith, K .counts, keep-le f (take i rows), length-take-le i rows h)
 
-    pub kept-next : i < 1024 → f (rowAt rows i) ≡ true → Kept rows (set out k (rowAt rows i)) (k + 1) (i + 1)
-    kept-next fits t =
+    pub kept-next : {out′ : List Row} {k′ : ℕ} → i < length rows → i < 1024 → f (rowAt rows i) ≡ true → out′ ≡ set out k (rowAt rows i) → k′ ≡ k + 1
+        → Kept rows out′ k′ (i + 1)
+    kept-next {out′} {k′} h fits t o c =
         let p = keep f (take i rows) in
+        let q = p ++ (rowAt rows i ∷ []) in
         let e = keep-yes rows i h t in
-        let c : k + 1 ≡ length (p ++ (rowAt rows i ∷ [])) = simp length-append (omega (arith, K .counts)) in
+        let n : k′ ≡ length q = c ∙ simp length-append (omega (arith, K .counts)) in
         record {
-          stand = rw (K .stand, K .counts) (filled-next noRow rowLimit p (rowAt rows i) (omega (arith, K .counts, kept-le))) ∙ sym (ap (λ (n : ℕ). (p ++ (rowAt rows i ∷ [])) ++ replicate (rowLimit - n) noRow) c)
-              ∙ ap (λ (l : List Row). l ++ replicate (rowLimit - (k + 1)) noRow) (sym e);
-          counts = c ∙ ap length (sym e);
+          stand = o ∙ rw (K .stand, K .counts) (filled-next noRow rowLimit p (rowAt rows i) (omega (arith, K .counts, kept-le (omega arith))))
+              ∙ ap (λ (m : ℕ). q ++ replicate (rowLimit - m) noRow) (sym n)
+              ∙ ap (λ (l : List Row). l ++ replicate (rowLimit - k′) noRow) (sym e);
+          counts = n ∙ ap length (sym e);
         }
 
-    pub kept-same : f (rowAt rows i) ≡ false → Kept rows out k (i + 1)
-    kept-same t = let e = keep-no rows i h t in record {
-      stand = K .stand ∙ ap (λ (l : List Row). l ++ replicate (rowLimit - k) noRow) (sym e);
-      counts = K .counts ∙ ap length (sym e);
-    }
+    pub kept-same : {out′ : List Row} {k′ : ℕ} → i < length rows → f (rowAt rows i) ≡ false → out′ ≡ out → k′ ≡ k → Kept rows out′ k′ (i + 1)
+    kept-same h t o c =
+        let e = keep-no rows i h t in
+        record {
+          stand = o ∙ K .stand ∙ ap (λ (l : List Row). l ++ replicate (rowLimit - k) noRow) (sym e) ∙ ap (λ (m : ℕ). keep f (take (i + 1) rows) ++ replicate (rowLimit - m) noRow) (sym c);
+          counts = c ∙ K .counts ∙ ap length (sym e);
+        }
 
 -- all rows looked at
 module _ (ticket : ℕ) (b out : Book) (k : ℕ) (long : length (b .rows) ≡ 1024) (fits : b .count ≤ 1024)
@@ -75,11 +80,12 @@ module _ (ticket : ℕ) (b out : Book) (k : ℕ) (long : length (b .rows) ≡ 10
   kept-book =
       book-eq _ _ (K .stand ∙ ap (λ (n : ℕ). keep (otherTicket ticket) (rowsOf b) ++ replicate (rowLimit - n) noRow) (K .counts)) (K .counts) refl
 
-  pub kept-count : (k ≤ b .count) × (b .count - k ≡ length (keep (ofTicket ticket) (rowsOf b)))
+  -- the others are the ticket's
+  pub kept-count : b .count - k ≡ length (keep (ofTicket ticket) (rowsOf b))
   kept-count =
       let c = keep-count (ofTicket ticket) (rowsOf b) in
       let n = count-rows b long fits in
-      (omega (arith, K .counts), omega (arith, K .counts))
+      omega (arith, K .counts)
 
 -- ---- a ticket is known exactly when a row of it is counted
 

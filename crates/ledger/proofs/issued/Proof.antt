@@ -1,16 +1,18 @@
+-- `ledger::issued` meets its contract: only the next ticket changes, so that the array form of a list stays one of the same list.
+use Prim.Native.Nat.{ℕ, _+_}
+use mathlib.Core.Path.{ap}
 use borrow.Author.Needs.{needs}
+use Rattle.rules.specs.declared.Book.{Book}
+use Rattle.keeping.specs.Books.{book-eq}
 use Rattle.ledger.proofs.issued.Statement.{statement}
 use Rattle.ledger.proofs.issued.Tie as tie
-use Rattle.ledger.proofs.issued.Reads as reads
-use Rattle.ledger.proofs.issued.Lts as lts
 
--- src/lib.rt:97:23
 add-out : tie.Need-add-out
 add-out c = search needs
 
--- src/lib.rt:92:1
 returns : tie.Need-returns
-returns c = ?
+returns c l t e =
+    book-eq _ _ (ap (λ (x : Book). x .rows) e) (ap (λ (x : Book). x .count) e) (ap (λ (x : Book). x .«next_ticket» + 1) e)
 
 pub issued-spec : {M : Type 1} → statement M
 issued-spec = tie.close (tie.spec add-out returns)
