@@ -39,9 +39,9 @@ below-stop r l R zero h stop i k = absurd (omega arith)
 below-stop r l R (suc at) h stop i k =
     ⊎-elim
     (λ (c : i < at). ⊎-elim
-        (λ (e : lessb (rowKey r) (rowKey (rowAt l i)) ≡ true). absurd (not-less _ _ (stop at refl) (less-trans (lessb-less _ _ e) (R .rise i at c (omega arith)))))
-        (λ (e : lessb (rowKey r) (rowKey (rowAt l i)) ≡ false). e)
-        (true-or-false (lessb (rowKey r) (rowKey (rowAt l i)))))
+    (λ (e : lessb (rowKey r) (rowKey (rowAt l i)) ≡ true). absurd (not-less _ _ (stop at refl) (less-trans (lessb-less _ _ e) (R .rise i at c (omega arith)))))
+    (λ (e : lessb (rowKey r) (rowKey (rowAt l i)) ≡ false). e)
+    (true-or-false (lessb (rowKey r) (rowKey (rowAt l i)))))
     (λ (c : at ≤ i). stop i (omega arith))
     (lt-or-ge i at)
 
@@ -71,22 +71,22 @@ module _ (r : Row) (b : Book) where
     pub shift-done : b ≡ bookOf (rowsOf b) (b .«next_ticket») → Rising (rowsOf b)
         → ((i : ℕ) → suc i ≡ j → lessb (rowKey r) (rowKey (rowAt (out .rows) i)) ≡ false)
         → _≡_ {A = Book} (record { rows = set (out .rows) j r; count = b .count + 1; «next_ticket» = out .«next_ticket» })
-          (bookOf (insertRow r (rowsOf b)) (b .«next_ticket»))
+        (bookOf (insertRow r (rowsOf b)) (b .«next_ticket»))
     shift-done full R stop =
         let n = count-rows b long (omega arith) in
         let w : j ≤ length (rowsOf b) = omega (arith, S .within) in
         let row : (i : ℕ) → i < b .count → rowAt (rowsOf b) i ≡ rowAt (b .rows) i = λ i h. getD-take (b .count) (b .rows) i noRow h in
         let goes : insertRow r (rowsOf b) ≡ put noRow r (rowsOf b) j =
-            insert-at r (rowsOf b) j w
-            (below-stop r (rowsOf b) R j w
-            (λ i e. ap (λ (x : Row). lessb (rowKey r) (rowKey x)) (row i (omega (arith, S .within)) ∙ sym (S .moved .low i (omega arith))) ∙ stop i e))
-            (λ h. ap (λ (x : Row). lessb (rowKey r) (rowKey x)) (row j (omega arith)) ∙ S .above (omega arith)) in
+        insert-at r (rowsOf b) j w
+        (below-stop r (rowsOf b) R j w
+        (λ i e. ap (λ (x : Row). lessb (rowKey r) (rowKey x)) (row i (omega (arith, S .within)) ∙ sym (S .moved .low i (omega arith))) ∙ stop i e))
+        (λ h. ap (λ (x : Row). lessb (rowKey r) (rowKey x)) (row j (omega arith)) ∙ S .above (omega arith)) in
         let m = length-put noRow r (rowsOf b) j w in
         book-eq _ _
         (moved-put noRow r (rowsOf b) (b .rows) (out .rows) (b .count) j rowLimit n (S .within) fits long
-            (ap (λ (x : Book). x .rows) full ∙ ap (λ (k : ℕ). rowsOf b ++ replicate (rowLimit - k) noRow) n)
-            (S .moved)
-            ∙ ap (λ (k : ℕ). put noRow r (rowsOf b) j ++ replicate (rowLimit - k) noRow) (ap (λ (k : ℕ). k + 1) (sym n) ∙ sym m)
-            ∙ ap (λ (l : List Row). l ++ replicate (rowLimit - length l) noRow) (sym goes))
+        (ap (λ (x : Book). x .rows) full ∙ ap (λ (k : ℕ). rowsOf b ++ replicate (rowLimit - k) noRow) n)
+        (S .moved)
+        ∙ ap (λ (k : ℕ). put noRow r (rowsOf b) j ++ replicate (rowLimit - k) noRow) (ap (λ (k : ℕ). k + 1) (sym n) ∙ sym m)
+        ∙ ap (λ (l : List Row). l ++ replicate (rowLimit - length l) noRow) (sym goes))
         (ap (λ (k : ℕ). k + 1) (sym n) ∙ sym m ∙ ap length (sym goes))
         (S .ticket)

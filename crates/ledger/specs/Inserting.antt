@@ -86,8 +86,7 @@ module _ {new rows : List Row} {t : ℕ} where
     -- what `insert` asks
     pub inserted-ready : i < length new → (s .count < 1024) × ((s ≡ bookOf (rowsOf s) (s .«next_ticket»)) × Rising (rowsOf s))
     inserted-ready h =
-        let w = I .within in
-        (
+        let w = I .within in (
           omega (arith, count-held (insertAll (take i new) rows) t (I .holds), all-length (take i new) rows, length-take-le i new w, I .fits),
           (book-held (insertAll (take i new) rows) t (I .holds), rising-held (insertAll (take i new) rows) t (I .holds) (all-rising (take i new) rows (I .rising) (new-take new rows i w (I .all-new)))),
         )

@@ -74,8 +74,8 @@ returns c =
     let s = l .before .before in
     shift-done _ _ (long s) (s .pre .0) (l .loop .inv) (s .pre .1 .0) (s .pre .1 .1)
     (λ i e. ⊎-elim (λ w. absurd (omega (arith, w .left)))
-        (λ w. ap (λ (k : ℕ). lessb (rowKey (s .args .r)) (rowKey (rowAt (l .loop .out .rows) k))) (omega arith) ∙ sym (w .2 .ensures) ∙ not-true (w .2 .result) (w .3 .taken))
-        (c .loop-test .came))
+    (λ w. ap (λ (k : ℕ). lessb (rowKey (s .args .r)) (rowKey (rowAt (l .loop .out .rows) k))) (omega arith) ∙ sym (w .2 .ensures) ∙ not-true (w .2 .result) (w .3 .taken))
+    (c .loop-test .came))
 
 pub insert-spec : {M : Type 1} → statement M
 insert-spec =

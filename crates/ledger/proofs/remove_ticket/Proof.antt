@@ -61,12 +61,11 @@ loop-again c =
     let s = l .before .before in
     let F = otherTicket (s .args .ticket) in
     let K = l .loop .inv .1 in
-    let h : l .loop .i < length (s .args .t1 .rows) = omega (arith, long s) in
-    (
+    let h : l .loop .i < length (s .args .t1 .rows) = omega (arith, long s) in (
       omega arith,
       ⊎-elim (λ w. kept-next F K h (omega arith) (ap not (ne-eqb _ _ (w .0 .taken))) (ap (λ (x : Book). x .rows) (w .1)) (w .2))
-      (λ w. kept-same F K h (ap not (eq-eqb _ _ (w .0 .left))) (ap (λ (x : Book). x .rows) (w .1)) (w .2))
-      (c .if1 .came),
+          (λ w. kept-same F K h (ap not (eq-eqb _ _ (w .0 .left))) (ap (λ (x : Book). x .rows) (w .1)) (w .2))
+          (c .if1 .came),
     )
 
 sub-t19 : tie.Need-sub-t19 Inv-loop μ-loop
