@@ -6,7 +6,7 @@ use mathlib.Core.Bool.{true, false}
 use mathlib.Core.List.{List, [], _∷_, _++_}
 use Prim.Native.Nat.{ℕ, zero, suc, _+_, _-_, _<_, _≤_}
 use native.Mathlib.Omega.{arith}
-use lib.ListN.{length, take, drop, set, replicate}
+use lib.ListN.{length, set, replicate}
 use lib.Seq.{getD-take}
 use Rattle.laws.specs.Order.{lt-or-ge}
 use Rattle.laws.specs.Tests.{true-or-false}
@@ -16,11 +16,12 @@ use Rattle.rules.specs.Limits.{rowLimit}
 use Rattle.rules.specs.Rows.{rowKey, noRow, rowAt, lessb, Rising, insertRow}
 use Rattle.rules.specs.Book.{rowsOf, bookOf}
 use Rattle.keeping.specs.OrderLaws.{less-trans, lessb-less, not-less}
+use Rattle.keeping.specs.Changes.{insert-length}
 use Rattle.keeping.specs.Books.{book-eq, count-rows}
-use Rattle.ledger.specs.Lists.{put, length-put, Moved, moved-none, moved-more, moved-put}
+use Rattle.ledger.specs.Lists.{put, Moved, moved-none, moved-more, moved-put}
 
 -- where a row goes: before the first whose key is above its own
-pub insert-at : (r : Row) (l : List Row) (at : ℕ) → at ≤ length l
+insert-at : (r : Row) (l : List Row) (at : ℕ) → at ≤ length l
     → ((i : ℕ) → i < at → lessb (rowKey r) (rowKey (rowAt l i)) ≡ false)
     → (at < length l → lessb (rowKey r) (rowKey (rowAt l at)) ≡ true)
     → insertRow r l ≡ put noRow r l at
@@ -32,18 +33,19 @@ insert-at r (x ∷ l) (suc at) h low up =
     (ap (λ (t : List Row). x ∷ t) (insert-at r l at (omega arith) (λ i k. low (suc i) (omega arith)) (λ k. up (omega arith))))
 
 -- in key order, what lies below a row that is not above lies not above
-pub below-stop : (r : Row) (l : List Row) → Rising l → (at : ℕ) → at ≤ length l
+not-above : (r : Row) (l : List Row) → Rising l → (i j : ℕ) → i < j → j < length l → lessb (rowKey r) (rowKey (rowAt l j)) ≡ false
+    → lessb (rowKey r) (rowKey (rowAt l i)) ≡ false
+not-above r l R i j h k e =
+    ⊎-elim (λ (c : lessb (rowKey r) (rowKey (rowAt l i)) ≡ true). absurd (not-less _ _ e (less-trans (lessb-less _ _ c) (R .rise i j h k))))
+    (λ (c : lessb (rowKey r) (rowKey (rowAt l i)) ≡ false). c)
+    (true-or-false (lessb (rowKey r) (rowKey (rowAt l i))))
+
+below-stop : (r : Row) (l : List Row) → Rising l → (at : ℕ) → at ≤ length l
     → ((i : ℕ) → suc i ≡ at → lessb (rowKey r) (rowKey (rowAt l i)) ≡ false)
     → (i : ℕ) → i < at → lessb (rowKey r) (rowKey (rowAt l i)) ≡ false
 below-stop r l R zero h stop i k = absurd (omega arith)
 below-stop r l R (suc at) h stop i k =
-    ⊎-elim
-    (λ (c : i < at). ⊎-elim
-    (λ (e : lessb (rowKey r) (rowKey (rowAt l i)) ≡ true). absurd (not-less _ _ (stop at refl) (less-trans (lessb-less _ _ e) (R .rise i at c (omega arith)))))
-    (λ (e : lessb (rowKey r) (rowKey (rowAt l i)) ≡ false). e)
-    (true-or-false (lessb (rowKey r) (rowKey (rowAt l i)))))
-    (λ (c : at ≤ i). stop i (omega arith))
-    (lt-or-ge i at)
+    ⊎-elim (λ (c : i < at). not-above r l R i at c (omega arith) (stop at refl)) (λ (c : at ≤ i). stop i (omega arith)) (lt-or-ge i at)
 
 -- out is the book b whose rows from j on are moved up by one; the row at j is above r
 pub record Shifted (r : Row) (b out : Book) (j : ℕ) : Type 0 where
@@ -68,25 +70,34 @@ module _ (r : Row) (b : Book) where
     }
 
     -- the row below, if there is one, is not above r, which goes here
-    pub shift-done : b ≡ bookOf (rowsOf b) (b .«next_ticket») → Rising (rowsOf b)
-        → ((i : ℕ) → suc i ≡ j → lessb (rowKey r) (rowKey (rowAt (out .rows) i)) ≡ false)
-        → _≡_ {A = Book} (record { rows = set (out .rows) j r; count = b .count + 1; «next_ticket» = out .«next_ticket» })
-        (bookOf (insertRow r (rowsOf b)) (b .«next_ticket»))
-    shift-done full R stop =
-        let n = count-rows b long (omega arith) in
-        let w : j ≤ length (rowsOf b) = omega (arith, S .within) in
-        let row : (i : ℕ) → i < b .count → rowAt (rowsOf b) i ≡ rowAt (b .rows) i = λ i h. getD-take (b .count) (b .rows) i noRow h in
-        let goes : insertRow r (rowsOf b) ≡ put noRow r (rowsOf b) j =
-        insert-at r (rowsOf b) j w
-        (below-stop r (rowsOf b) R j w
-        (λ i e. ap (λ (x : Row). lessb (rowKey r) (rowKey x)) (row i (omega (arith, S .within)) ∙ sym (S .moved .low i (omega arith))) ∙ stop i e))
-        (λ h. ap (λ (x : Row). lessb (rowKey r) (rowKey x)) (row j (omega arith)) ∙ S .above (omega arith)) in
-        let m = length-put noRow r (rowsOf b) j w in
-        book-eq _ _
-        (moved-put noRow r (rowsOf b) (b .rows) (out .rows) (b .count) j rowLimit n (S .within) fits long
-        (ap (λ (x : Book). x .rows) full ∙ ap (λ (k : ℕ). rowsOf b ++ replicate (rowLimit - k) noRow) n)
-        (S .moved)
-        ∙ ap (λ (k : ℕ). put noRow r (rowsOf b) j ++ replicate (rowLimit - k) noRow) (ap (λ (k : ℕ). k + 1) (sym n) ∙ sym m)
-        ∙ ap (λ (l : List Row). l ++ replicate (rowLimit - length l) noRow) (sym goes))
-        (ap (λ (k : ℕ). k + 1) (sym n) ∙ sym m ∙ ap length (sym goes))
-        (S .ticket)
+    module _ (full : b ≡ bookOf (rowsOf b) (b .«next_ticket»)) (R : Rising (rowsOf b))
+        (stop : (i : ℕ) → suc i ≡ j → lessb (rowKey r) (rowKey (rowAt (out .rows) i)) ≡ false) where
+      count : length (rowsOf b) ≡ b .count
+      count = count-rows b long (omega arith)
+
+      at : j ≤ length (rowsOf b)
+      at = omega (arith, S .within, count)
+
+      -- r's test of a row of the list is its test of a row of the array
+      test : (i : ℕ) → i < b .count → lessb (rowKey r) (rowKey (rowAt (rowsOf b) i)) ≡ lessb (rowKey r) (rowKey (rowAt (b .rows) i))
+      test i h = ap (λ (x : Row). lessb (rowKey r) (rowKey x)) (getD-take (b .count) (b .rows) i noRow h)
+
+      below : (i : ℕ) → suc i ≡ j → lessb (rowKey r) (rowKey (rowAt (rowsOf b) i)) ≡ false
+      below i e =
+          test i (omega (arith, S .within)) ∙ ap (λ (x : Row). lessb (rowKey r) (rowKey x)) (sym (S .moved .low i (omega arith))) ∙ stop i e
+
+      goes : insertRow r (rowsOf b) ≡ put noRow r (rowsOf b) j
+      goes = insert-at r (rowsOf b) j at (below-stop r (rowsOf b) R j at below) (λ h. test j (omega (arith, count)) ∙ S .above (omega (arith, count)))
+
+      more : b .count + 1 ≡ length (insertRow r (rowsOf b))
+      more = omega (arith, insert-length r (rowsOf b), count)
+
+      rows : set (out .rows) j r ≡ insertRow r (rowsOf b) ++ replicate (rowLimit - (b .count + 1)) noRow
+      rows =
+          moved-put noRow r (rowsOf b) (b .rows) (out .rows) (b .count) j rowLimit count (S .within) fits long
+          (ap (λ (x : Book). x .rows) full ∙ ap (λ (k : ℕ). rowsOf b ++ replicate (rowLimit - k) noRow) count)
+          (S .moved)
+          ∙ ap (λ (l : List Row). l ++ replicate (rowLimit - (b .count + 1)) noRow) (sym goes)
+
+      pub shift-done : _≡_ {A = Book} (record { rows = set (out .rows) j r; count = b .count + 1; «next_ticket» = out .«next_ticket» }) (bookOf (insertRow r (rowsOf b)) (b .«next_ticket»))
+      shift-done = book-eq _ _ (rows ∙ ap (λ (k : ℕ). insertRow r (rowsOf b) ++ replicate (rowLimit - k) noRow) more) more (S .ticket)

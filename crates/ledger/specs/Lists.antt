@@ -1,7 +1,7 @@
 -- Lists that are filled up to a size, by their elements: a part that moves up by one to let an element in, and one element more behind the others.
 -- The filler is what `getD` gives past the end, so that a filled list has the list's own elements.
 use mathlib.Core.Path.{_≡_, refl, sym, ap, _∙_}
-use mathlib.Core.Logic.{_⊎_, inl, inr, ⊎-elim}
+use mathlib.Core.Logic.{_⊎_, inl, inr}
 use mathlib.Core.List.{List, [], _∷_, _++_, map}
 use Prim.Native.Nat.{ℕ, zero, suc, _+_, _-_, _<_, _≤_}
 use native.Mathlib.Nat.{eq-or-lt-of-le}
@@ -56,9 +56,6 @@ module _ {A : Type 0} (z : A) where
     put-high [] (suc at) k h l = absurd (omega arith)
     put-high (x ∷ p) (suc at) zero h l = absurd (omega arith)
     put-high (x ∷ p) (suc at) (suc k) h l = put-high p at k (omega arith) (omega arith)
-
-    pub length-put : (p : List A) (at : ℕ) → at ≤ length p → length (put p at) ≡ length p + 1
-    length-put p at h = simp (length-append, length-take, length-drop) (omega arith)
 
   -- m is l with the elements from j up to n moved up by one; the one at j stands there still
   pub record Moved (l m : List A) (n j : ℕ) : Type 0 where

@@ -1,8 +1,8 @@
--- Rows that a test keeps, written one after the other onto an empty array; and that a ticket is known exactly when the test for it keeps a row.
-use mathlib.Core.Path.{_≡_, refl, sym, ap, subst, _∙_}
-use mathlib.Core.Bool.{Bool, true, false, not}
+-- Rows that a test keeps, written one after the other into an empty array: each goes into the first slot behind those before it, so that empty slots
+-- stay behind. And a ticket is known exactly when the test for its rows keeps one.
+use mathlib.Core.Path.{_≡_, refl, sym, ap, _∙_}
+use mathlib.Core.Bool.{Bool, true, false}
 use mathlib.Core.List.{List, [], _∷_, _++_, append-nil, List·Memᴰ, List·Memᴰ·not-nil}
-use mathlib.Core.List.List·Memᴰ.{List·Memᴰ·head}
 use Prim.Native.Nat.{ℕ, _+_, _-_, _<_, _≤_}
 use native.Mathlib.Numerals.{add-one}
 use native.Mathlib.Omega.{arith}

@@ -1,6 +1,6 @@
 -- `ledger::insert` meets its contract: the rows from j on are moved up by one and are above the new row. The loop ends at the first row or at one that
 -- is not above it, and there the new row goes.
-use Prim.Native.Nat.{ℕ, suc, _-_}
+use Prim.Native.Nat.{ℕ}
 use mathlib.Core.Path.{_≡_, sym, ap, _∙_}
 use mathlib.Core.Logic.{⊎-elim}
 use native.Mathlib.Omega.{arith}

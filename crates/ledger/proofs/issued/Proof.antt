@@ -1,5 +1,5 @@
 -- `ledger::issued` meets its contract: only the next ticket changes, so that the array form of a list stays one of the same list.
-use Prim.Native.Nat.{ℕ, _+_}
+use Prim.Native.Nat.{_+_}
 use mathlib.Core.Path.{ap}
 use borrow.Author.Needs.{needs}
 use Rattle.rules.specs.declared.Book.{Book}
