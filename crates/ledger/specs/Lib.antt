@@ -1,0 +1,4 @@
+pub mod Lists
+pub mod Insert
+pub mod Remove
+pub mod Inserting

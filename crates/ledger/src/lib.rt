@@ -1,0 +1,99 @@
+// Changes of a book, by value: a row put in, a ticket's rows taken out, a ticket issued.
+use rules::Book;
+use rules::Cursor;
+use rules::Row;
+ghost use mathlib.Core.Path.{_≡_};
+ghost use mathlib.Core.List.{List, []};
+ghost use Prim.Native.Nat.{ℕ, _+_, _≤_, _<_};
+ghost use lib.ListN.{length};
+ghost use Rattle.rules.specs.declared.Row.{Row};
+ghost use Rattle.rules.specs.Rows.{Rising, keep, insertRow};
+ghost use Rattle.rules.specs.Book.{rowsOf, bookOf, ofTicket, otherTicket};
+
+// the book of no rows, whose first ticket is 1
+pub fn empty_book() -> Book
+    ensures { λ r. ⌜ r ≡ bookOf [] 1 ⌝ }
+{
+    let none = Row {
+        place: 0,
+        entry: 0,
+        ticket: 0,
+        exit: 0,
+        next: 0,
+    };
+    let rows = [none; 1024];
+    Book {
+        rows: rows,
+        count: 0,
+        next_ticket: 1,
+    }
+}
+
+// the book with one row more, in key order: the rows above it move up by one, the last first
+pub fn insert(b: Book, r: Row) -> Book
+    requires { ⌜ b .count < 1024 ⌝ }
+    requires { ⌜ b ≡ bookOf (rowsOf b) (b .«next_ticket») ⌝ }
+    requires { ⌜ Rising (rowsOf b) ⌝ }
+    ensures { λ s. ⌜ s ≡ bookOf (insertRow r (rowsOf b)) (b .«next_ticket») ⌝ }
+{
+    let place = r.place as u32;
+    let key = Cursor {
+        place: place,
+        entry: r.entry,
+        ticket: r.ticket,
+    };
+    let n = b.count;
+    let mut out = b;
+    let mut j = n;
+    while 0 < j {
+        let x = out.rows[j - 1];
+        if !key.before(x) {
+            break;
+        }
+        out.rows[j] = x;
+        j -= 1;
+    }
+    out.rows[j] = r;
+    out.count = n + 1;
+    out
+}
+
+pub struct Removed {
+    pub book: Book,
+    pub count: usize,
+}
+
+// the book without a ticket's rows, and how many they were
+pub fn remove_ticket(b: Book, ticket: u32) -> Removed
+    requires { ⌜ b .count ≤ 1024 ⌝ }
+    ensures { λ r. ⌜ (r .book ≡ bookOf (keep (otherTicket ticket) (rowsOf b)) (b .«next_ticket»)) × (r .count ≡ length (keep (ofTicket ticket) (rowsOf b))) ⌝ }
+{
+    let n = b.count;
+    let mut out = empty_book();
+    let mut kept = 0;
+    let mut i = 0;
+    while i < n {
+        let x = b.rows[i];
+        if x.ticket != ticket {
+            out.rows[kept] = x;
+            kept += 1;
+        }
+        i += 1;
+    }
+    out.count = kept;
+    out.next_ticket = b.next_ticket;
+    Removed {
+        book: out,
+        count: n - kept,
+    }
+}
+
+// the book with its next ticket issued
+pub fn issued(b: Book) -> Book
+    requires { ⌜ b .«next_ticket» < 1000000 ⌝ }
+    ensures { λ r. ⌜ ((l : List Row) (t : ℕ) → b ≡ bookOf l t → r ≡ bookOf l (t + 1)) ⌝ }
+{
+    let mut out = b;
+    out.next_ticket = b.next_ticket + 1;
+    out
+}
