@@ -1,0 +1,6 @@
+pub mod Edges
+pub mod Next
+pub mod Listing
+pub mod Entries
+pub mod Checks
+pub mod Trail
