@@ -4,3 +4,5 @@ pub mod Listing
 pub mod Entries
 pub mod Checks
 pub mod Trail
+pub mod Maps
+pub mod Barn
