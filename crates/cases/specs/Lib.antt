@@ -6,3 +6,4 @@ pub mod Checks
 pub mod Trail
 pub mod Maps
 pub mod Barn
+pub mod Past
