@@ -2,13 +2,14 @@
 use Prim.Native.Nat.{ℕ, zero, suc, _≤_, _<_}
 use mathlib.Core.Path.{_≡_, refl, sym, subst, _∙_}
 use mathlib.Core.Logic.{_⊎_, inl, inr, ⊎-elim}
-use mathlib.Core.Bool.{Bool, true, false, _&&_, _||_}
+use mathlib.Core.Bool.{Bool, true, false, _&&_, _||_, not}
 use mathlib.Core.List.{List, [], _∷_}
 use native.Mathlib.Omega.{arith}
 use lib.ListN.{length, getD}
 use lib.Dec.{eqb, leb, ltb}
-use borrow.Author.Tests.{eqb-true, leb-true, ltb-true}
+use borrow.Author.Tests.{eqb-true, leb-true, ltb-true, not-true}
 use Rattle.laws.specs.Tests.{and-l, and-r, or-out}
+use Rattle.rules.specs.declared.Row.{Row}
 use Rattle.rules.specs.Plan.{Stay}
 use Rattle.rules.specs.Chosen.{LexLe}
 
@@ -74,3 +75,37 @@ same-plan (x ∷ xs) (y ∷ ys) t =
     let r = eqb-true (x .exit) (y .exit) (holds ts t 2) in
     let e = same-plan xs ys (holds ts t 3) in
     λ i. record { place = p i; entry = q i; exit = r i } ∷ e i
+
+-- two lists of rows are the same, row by row
+unfoldable pub sameRows : List Row → List Row → Bool
+unfolding every
+sameRows [] [] = true
+sameRows [] (y ∷ ys) = false
+sameRows (x ∷ xs) [] = false
+sameRows (x ∷ xs) (y ∷ ys) =
+    every (eqb (x .place) (y .place) ∷ eqb (x .entry) (y .entry) ∷ eqb (x .ticket) (y .ticket) ∷ eqb (x .exit) (y .exit) ∷ eqb (x .next) (y .next) ∷ sameRows xs ys ∷ [])
+
+pub same-rows : (xs ys : List Row) → sameRows xs ys ≡ true → xs ≡ ys
+unfolding sameRows
+same-rows [] [] t = refl
+same-rows [] (y ∷ ys) t = absurd (let z : _≡_ {A = ℕ} 0 1 = cc in omega arith)
+same-rows (x ∷ xs) [] t = absurd (let z : _≡_ {A = ℕ} 0 1 = cc in omega arith)
+same-rows (x ∷ xs) (y ∷ ys) t =
+    let ts = eqb (x .place) (y .place) ∷ eqb (x .entry) (y .entry) ∷ eqb (x .ticket) (y .ticket) ∷ eqb (x .exit) (y .exit) ∷ eqb (x .next) (y .next) ∷ sameRows xs ys ∷ [] in
+    let p = eqb-true (x .place) (y .place) (holds ts t 0) in
+    let q = eqb-true (x .entry) (y .entry) (holds ts t 1) in
+    let k = eqb-true (x .ticket) (y .ticket) (holds ts t 2) in
+    let r = eqb-true (x .exit) (y .exit) (holds ts t 3) in
+    let n = eqb-true (x .next) (y .next) (holds ts t 4) in
+    let e = same-rows xs ys (holds ts t 5) in
+    λ i. record { place = p i; entry = q i; ticket = k i; exit = r i; next = n i } ∷ e i
+
+-- two answers are the same
+unfoldable pub sameAnswer : Bool → Bool → Bool
+sameAnswer true b = b
+sameAnswer false b = not b
+
+pub same-answer : (a b : Bool) → sameAnswer a b ≡ true → a ≡ b
+unfolding sameAnswer
+same-answer true b t = sym t
+same-answer false b t = sym (not-true b t)

@@ -7,3 +7,5 @@ pub mod Trail
 pub mod Maps
 pub mod Barn
 pub mod Past
+pub mod Case
+pub mod Table
