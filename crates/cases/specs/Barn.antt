@@ -14,16 +14,16 @@ use Rattle.rules.specs.declared.Link.{Link}
 use Rattle.rules.specs.declared.Map.{Map}
 use Rattle.rules.specs.declared.Row.{Row}
 use Rattle.rules.specs.Limits.{placeLimit, linkLimit}
-use Rattle.rules.specs.Map.{Yard, yardOf, noLink, linked, MapRules, GoodMap, mapYard}
-use Rattle.rules.specs.Rows.{load, crosses, covers}
+use Rattle.rules.specs.Map.{Yard, yardOf, noLink, GoodMap}
+use Rattle.rules.specs.Rows.{load}
 use Rattle.rules.specs.Plan.{Stay, Permitted}
-use Rattle.rules.specs.Window.{Window, Span}
+use Rattle.rules.specs.Window.{Span}
 use Rattle.rules.specs.Chosen.{Chosen}
 use Rattle.lanes.specs.Yards.{YardRules, yard-rules}
 use Rattle.lanes.specs.Best.{on-map}
 use Rattle.cases.specs.Checks.{every, lexB}
 use Rattle.cases.specs.Next.{mark, leastEntry}
-use Rattle.cases.specs.Listing.{wins, wins-are, wins-all}
+use Rattle.cases.specs.Listing.{windowsBelow, windows-are, windows-all}
 use Rattle.cases.specs.Entries.{allBelow, noSpan, entriesB, Entered, entered}
 use Rattle.cases.specs.Trail.{chosenB, noneB, chosen-is, no-plan}
 use Rattle.cases.specs.Maps.{mapB, map-rules}
@@ -103,7 +103,7 @@ goalOf dest (w ∷ ws) (e ∷ d) i b be = elim (eqb (w .place) dest && ltb e be)
 
 module _ (B : List Row) (start dest s : ℕ) where
   abbrev ws : List Span
-  ws = wins barn B 4
+  ws = windowsBelow barn B 4
 
   unfoldable dist : List ℕ
   unfolding rounds begins round intoLeast
@@ -137,8 +137,8 @@ module _ (B : List Row) (start dest s : ℕ) where
   module _ (room : (p u : ℕ) → p < barn .places → load B p u ≤ barn .cap p) where
     barn-entered : tableB ≡ true → Entered barn B start s ws dist
     barn-entered t =
-        entered back (λ i h. wins-are barn B 4 (getD ws i noSpan) (index-mem noSpan ws i h))
-        (λ w x. mem-index noSpan (wins-all barn B (barn-rules .long) 4 w (on-map barn B start s barn-rules room x) x))
+        entered back (λ i h. windows-are barn B 4 (getD ws i noSpan) (index-mem noSpan ws i h))
+        (λ w x. mem-index noSpan (windows-all barn B (barn-rules .long) 4 w (on-map barn B start s barn-rules room x) x))
         (barn-rules .long) t
 
     pub plan-chosen : (plan : List Stay) → planB plan ≡ true → Chosen barn B start dest s plan

@@ -1,10 +1,10 @@
 -- What a line of the table of cases means: that the calls' contracts hold of the document's answer, and for planning also what the contract
 -- says of the plan. A test of each line is proved to give its meaning, for any line at all.
-use Prim.Native.Nat.{ℕ, zero, suc, _+_, _≤_, _<_}
-use mathlib.Core.Path.{_≡_, refl, sym, ap, subst, _∙_}
-use mathlib.Core.Logic.{_⊎_, inl, inr}
+use Prim.Native.Nat.{ℕ, _+_, _≤_, _<_}
+use mathlib.Core.Path.{_≡_, refl, sym, ap, subst, subst₂, _∙_}
+use mathlib.Core.Logic.{inl, inr}
 use mathlib.Core.Bool.{Bool, true, false, _&&_, not}
-use mathlib.Core.List.{List, [], _∷_, List·Memᴰ}
+use mathlib.Core.List.{List, [], _∷_}
 use native.Mathlib.Omega.{arith}
 use lib.ListN.{length}
 use lib.Dec.{eqb, leb, ltb}
@@ -12,36 +12,35 @@ use borrow.Author.Tests.{leb-true, ltb-true, eqb-true, lt-ltb, not-true}
 use Rattle.laws.specs.Tests.{and-l, and-r, and-in, not-both}
 use Rattle.laws.specs.Lists.{index-mem}
 use Rattle.rules.specs.declared.Row.{Row}
-use Rattle.rules.specs.declared.Book.{Book}
 use Rattle.rules.specs.declared.Cursor.{Cursor}
 use Rattle.rules.specs.declared.Refusal.{Refusal}
 use Rattle.rules.specs.declared.Refusal.the-variants.{BadMap, BadBook, OffMap, OffDay, NoPlan, ShortList, FullBook, NoTickets, UnknownTicket, BadSize, BadCursor, BadFrame}
 use Rattle.rules.specs.declared.Planned.{Planned}
 use Rattle.rules.specs.declared.Planned.the-variants.{Done, Refused}
-use Rattle.rules.specs.declared.Booked.{Booked}
 use Rattle.rules.specs.declared.Booked.the-variants.{Done as Issues}
-use Rattle.rules.specs.declared.Cancelled.{Cancelled}
 use Rattle.rules.specs.declared.Cancelled.the-variants.{Done as Removes}
-use Rattle.rules.specs.declared.Paged.{Paged}
 use Rattle.rules.specs.declared.Paged.the-variants.{Done as Shows}
 use Rattle.rules.specs.Limits.{day, rowLimit, ticketLimit, pageLimit}
 use Rattle.rules.specs.Map.{GoodMap}
-use Rattle.rules.specs.Rows.{Key, rowKey, noRow, keep, insertAll}
-use Rattle.rules.specs.Plan.{Stay, Permitted, arrival, runRows}
+use Rattle.rules.specs.Rows.{Key, noRow, keep, insertAll}
+use Rattle.rules.specs.Plan.{Stay, stayAt, Permitted, arrival, runRows}
 use Rattle.rules.specs.Page.{pageRows, pageMore, lastKey}
 use Rattle.rules.specs.Book.{WellFormed, GoodBook, rowsOf, bookOf, ofTicket, otherTicket}
 use Rattle.rules.specs.Chosen.{Chosen}
-use Rattle.rules.specs.Answer.{Unless, written, records, PlanSays, PlanIs, BookIs, BookDone, CancelIs, CancelDone, Known, PageSays, PageIs, PageDone, CursorFits}
+use Rattle.rules.specs.Answer.{written, records, PlanSays, PlanIs, BookIs, CancelIs, Known, PageSays, PageIs, CursorFits}
 use Rattle.keeping.specs.Books.{rows-of-book, good-book}
 use Rattle.keeping.specs.Changes.{mem-keep}
 use Rattle.cases.specs.Checks.{every, holds, sameRows, same-rows, sameAnswer, same-answer}
-use Rattle.cases.specs.Barn.{barn, barnMap, barn-good, barn-rules, planB, refusedB, none-permitted}
+use Rattle.cases.specs.Permits.{permittedB, permitted-is}
+use Rattle.cases.specs.Barn.{barn, barnMap, barn-good, planB, refusedB, none-permitted}
 use Rattle.cases.specs.Past.{Past, booked, cancelled, nextTicket, rowsNow, bookNow, askTests, bookTests, pastB, past-formed, Answered, answered}
 
 -- each beside the book of a past
 pub data Case : Type 0 where
   -- from start to dest at second s: these stays, with this arrival
   plans : Past → (start dest s : ℕ) → List Stay → (arrives : ℕ) → Case
+  -- from start to dest at second s these stays are permitted, with this arrival, be they chosen or not
+  permits : Past → (start dest s : ℕ) → List Stay → (arrives : ℕ) → Case
   -- from start to dest at second s: refused
   refuses : Past → (start dest s : ℕ) → Refusal → Case
   -- from start to dest at second s: these stays are booked under this ticket, with this arrival
@@ -60,6 +59,10 @@ pub record Plans (h : Past) (start dest s : ℕ) (plan : List Stay) (a : ℕ) : 
   pub arrives : arrival plan ≡ a
   pub says : (was : List ℕ) → length plan ≤ records was
       → PlanIs barnMap (bookNow h) start dest s was (written (runRows 0 plan) was) (Done (record { arrival = a; count = length plan }))
+
+pub record Permits (h : Past) (start dest s : ℕ) (plan : List Stay) (a : ℕ) : Type 0 where
+  pub permitted : Permitted barn (rowsNow h) start dest s plan
+  pub arrives : arrival plan ≡ a
 
 -- the table's condition of a refusal
 abbrev pub Why : Past → ℕ → ℕ → ℕ → Refusal → Type 0
@@ -102,6 +105,7 @@ pub record Pages (h : Past) (size : ℕ) (k : Key) (rows : List Row) (more : Boo
 
 abbrev pub Means : Case → Type 0
 Means (plans h start dest s plan a) = Plans h start dest s plan a
+Means (permits h start dest s plan a) = Permits h start dest s plan a
 Means (refuses h start dest s r) = Refuses h start dest s r
 Means (books h start dest s plan k a) = Books h start dest s plan k a
 Means (cancels h k n) = Cancels h k n
@@ -111,6 +115,10 @@ Means (pages h size k rows more) = Pages h size k rows more
 
 abbrev planCase : Past → ℕ → ℕ → ℕ → List Stay → ℕ → List Bool
 planCase h start dest s plan a = pastB h ∷ every (askTests start dest s) ∷ planB (rowsNow h) start dest s plan ∷ eqb (arrival plan) a ∷ []
+
+abbrev permitCase : Past → ℕ → ℕ → ℕ → List Stay → ℕ → List Bool
+permitCase h start dest s plan a =
+    pastB h ∷ permittedB barn (rowsNow h) dest plan ∷ eqb ((stayAt plan 0) .place) start ∷ eqb ((stayAt plan 0) .entry) s ∷ eqb (arrival plan) a ∷ []
 
 abbrev bookCase : Past → ℕ → ℕ → ℕ → List Stay → ℕ → ℕ → List Bool
 bookCase h start dest s plan k a = pastB (booked h start dest s plan) ∷ eqb (nextTicket h) k ∷ eqb (arrival plan) a ∷ []
@@ -139,6 +147,7 @@ refuseCase h start dest s BadFrame = false ∷ []
 
 unfoldable pub caseB : Case → Bool
 caseB (plans h start dest s plan a) = every (planCase h start dest s plan a)
+caseB (permits h start dest s plan a) = every (permitCase h start dest s plan a)
 caseB (refuses h start dest s r) = every (refuseCase h start dest s r)
 caseB (books h start dest s plan k a) = every (bookCase h start dest s plan k a)
 caseB (cancels h k n) = every (cancelCase h k n)
@@ -175,6 +184,14 @@ plans-mean h start dest s plan a t =
           plan-says h W
           (inr (barn-good, inr (good h W, inr ((on, to), inr (leb-true s day (holds (askTests start dest s) ask 2), inr ((plan, A .permitted), (plan, A .chosen, inr (l, record { code = refl; arrives = sym e; counts = refl; holds = refl }))))))));
     }
+
+permits-mean : (h : Past) (start dest s : ℕ) (plan : List Stay) (a : ℕ) → every (permitCase h start dest s plan a) ≡ true → Permits h start dest s plan a
+permits-mean h start dest s plan a t =
+    let ts = permitCase h start dest s plan a in
+    let P = permitted-is barn (rowsNow h) dest (past-formed h (holds ts t 0) .room) plan (holds ts t 1) in
+    let p = eqb-true ((stayAt plan 0) .place) start (holds ts t 2) in
+    let q = eqb-true ((stayAt plan 0) .entry) s (holds ts t 3) in
+    record { permitted = subst₂ (λ x y. Permitted barn (rowsNow h) x dest y plan) p q P; arrives = eqb-true (arrival plan) a (holds ts t 4) }
 
 off-map : (h : Past) (start dest s : ℕ) → every (refuseCase h start dest s OffMap) ≡ true → Refuses h start dest s OffMap
 off-map h start dest s t =
@@ -302,6 +319,7 @@ pages-mean h size k rows more t =
 pub case-means : (c : Case) → caseB c ≡ true → Means c
 unfolding caseB
 case-means (plans h start dest s plan a) t = plans-mean h start dest s plan a t
+case-means (permits h start dest s plan a) t = permits-mean h start dest s plan a t
 case-means (refuses h start dest s r) t = refuses-mean h start dest s r t
 case-means (books h start dest s plan k a) t = books-mean h start dest s plan k a t
 case-means (cancels h k n) t = cancels-mean h k n t

@@ -2,18 +2,17 @@
 -- entry (so none is too late) and each comes from a sooner one or is the first stay's (so none is too soon). Whoever proposed the list need
 -- not be believed.
 use Prim.Native.Nat.{ℕ, zero, suc, _+_, _≤_, _<_}
-use mathlib.Core.Path.{_≡_, refl, ap, subst, _∙_}
+use mathlib.Core.Path.{_≡_, refl, subst}
 use mathlib.Core.Logic.{_⊎_, inl, inr, ⊎-elim}
 use mathlib.Core.Bool.{Bool, true, false, _&&_, _||_}
-use mathlib.Core.List.{List, [], _∷_}
+use mathlib.Core.List.{List}
 use native.Mathlib.Omega.{arith}
 use lib.ListN.{length, getD}
 use lib.Dec.{eqb, leb, ltb}
-use borrow.Author.Tests.{eqb-true, leb-true, ltb-true, eq-eqb, le-leb, lt-ltb}
+use borrow.Author.Tests.{eqb-true, leb-true, ltb-true, eq-eqb, le-leb}
 use Rattle.laws.specs.Order.{lt-or-ge, strong}
 use Rattle.laws.specs.Tests.{and-in, and-l, and-r, or-out}
 use Rattle.rules.specs.declared.Row.{Row}
-use Rattle.rules.specs.Limits.{day}
 use Rattle.rules.specs.Map.{Yard}
 use Rattle.rules.specs.Window.{Window, Span, Step}
 use Rattle.lanes.specs.Reach.{step-mono, begin, Enter, fifo, Before, came}

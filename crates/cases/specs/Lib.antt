@@ -4,6 +4,7 @@ pub mod Listing
 pub mod Entries
 pub mod Checks
 pub mod Trail
+pub mod Permits
 pub mod Maps
 pub mod Barn
 pub mod Past

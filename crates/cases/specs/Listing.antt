@@ -42,10 +42,10 @@ module _ (Y : Yard) (B : List Row) where
   fromRows [] p = put p 0 []
   fromRows (r ∷ rs) p = elim (eqb (r .place) p) [ true ↦ put p (r .exit) (fromRows rs p) | false ↦ fromRows rs p ]
 
-  unfoldable pub wins : ℕ → List Span
+  unfoldable pub windowsBelow : ℕ → List Span
   unfolding fromRows
-  wins zero = []
-  wins (suc p) = fromRows B p ++ wins p
+  windowsBelow zero = []
+  windowsBelow (suc p) = fromRows B p ++ windowsBelow p
 
   -- ---- each is a window
 
@@ -77,10 +77,10 @@ module _ (Y : Yard) (B : List Row) where
   rows-are [] p = put-are p 0 [] (λ w m. absurd (List·Memᴰ·not-nil m))
   rows-are (r ∷ rs) p = ⊎-elim (λ (e : eqb (r .place) p ≡ true). rw (e, fromRows) (put-are p (r .exit) (fromRows rs p) (rows-are rs p))) (λ (e : eqb (r .place) p ≡ false). rw (e, fromRows) (rows-are rs p)) (true-or-false (eqb (r .place) p))
 
-  pub wins-are : (n : ℕ) (w : Span) → List·Memᴰ w (wins n) → Window Y B (w .place) (w .from) (w .to)
-  unfolding wins Are
-  wins-are zero w m = absurd (List·Memᴰ·not-nil m)
-  wins-are (suc p) w m = ⊎-elim (λ k. rows-are B p w k) (λ k. wins-are p w k) (List·Memᴰ·append-cases (fromRows B p) m)
+  pub windows-are : (n : ℕ) (w : Span) → List·Memᴰ w (windowsBelow n) → Window Y B (w .place) (w .from) (w .to)
+  unfolding windowsBelow Are
+  windows-are zero w m = absurd (List·Memᴰ·not-nil m)
+  windows-are (suc p) w m = ⊎-elim (λ k. rows-are B p w k) (λ k. windows-are p w k) (List·Memᴰ·append-cases (fromRows B p) m)
 
   -- ---- each one is there
 
@@ -130,15 +130,15 @@ module _ (Y : Yard) (B : List Row) where
         (λ (s′ : (a ≡ 0) ⊎ Ends rs p a). let m = rows-has rs p a s′ g in ⊎-elim (λ (e : eqb (r .place) p ≡ true). rw (e, fromRows) (put-old p (r .exit) (fromRows rs p) m)) (λ (e : eqb (r .place) p ≡ false). rw (e, fromRows) m) (true-or-false (eqb (r .place) p)))
         (first-or-later s)
 
-    wins-has : (n p : ℕ) (w : Span) → p < n → List·Memᴰ w (fromRows B p) → List·Memᴰ w (wins n)
-    unfolding wins
-    wins-has zero p w h m = absurd (omega arith)
-    wins-has (suc n) p w h m =
-        ⊎-elim (λ (q : p < n). Memᴰ·append-right (fromRows B n) (wins-has n p w q m))
-        (λ (q : n ≤ p). let e : p ≡ n = omega arith in Memᴰ·append-left (wins n) (subst (λ x. List·Memᴰ w (fromRows B x)) e m))
+    windows-has : (n p : ℕ) (w : Span) → p < n → List·Memᴰ w (fromRows B p) → List·Memᴰ w (windowsBelow n)
+    unfolding windowsBelow
+    windows-has zero p w h m = absurd (omega arith)
+    windows-has (suc n) p w h m =
+        ⊎-elim (λ (q : p < n). Memᴰ·append-right (fromRows B n) (windows-has n p w q m))
+        (λ (q : n ≤ p). let e : p ≡ n = omega arith in Memᴰ·append-left (windowsBelow n) (subst (λ x. List·Memᴰ w (fromRows B x)) e m))
         (lt-or-ge p n)
 
-    pub wins-all : (n : ℕ) (w : Span) → w .place < n → Window Y B (w .place) (w .from) (w .to) → List·Memᴰ w (wins n)
-    wins-all n w h x =
+    pub windows-all : (n : ℕ) (w : Span) → w .place < n → Window Y B (w .place) (w .from) (w .to) → List·Memᴰ w (windowsBelow n)
+    windows-all n w h x =
         let e : spanAt (w .place) (w .from) ≡ w = λ i. record { place = w .place; from = w .from; to = end-is x i } in
-        subst (λ v. List·Memᴰ v (wins n)) e (wins-has n (w .place) (spanAt (w .place) (w .from)) h (rows-has B (w .place) (w .from) (starts (dur-pos (w .place)) x) (good-of x)))
+        subst (λ v. List·Memᴰ v (windowsBelow n)) e (windows-has n (w .place) (spanAt (w .place) (w .from)) h (rows-has B (w .place) (w .from) (starts (dur-pos (w .place)) x) (good-of x)))

@@ -1,18 +1,17 @@
 -- The books of the cases, each given by its past: the bookings and cancellations that made it of the empty book. A past that stands the test
 -- leaves a well-formed book, because each of its bookings is of the chosen plan beside the book before it.
-use Prim.Native.Nat.{ℕ, zero, suc, _+_, _≤_, _<_}
-use mathlib.Core.Path.{_≡_, refl}
-use mathlib.Core.Bool.{Bool, true, false, _&&_}
+use Prim.Native.Nat.{ℕ, _+_, _≤_, _<_}
+use mathlib.Core.Path.{_≡_}
+use mathlib.Core.Bool.{Bool, true, _&&_}
 use mathlib.Core.List.{List, [], _∷_}
-use native.Mathlib.Omega.{arith}
 use lib.ListN.{length}
-use lib.Dec.{eqb, leb, ltb}
+use lib.Dec.{leb, ltb}
 use borrow.Author.Tests.{leb-true, ltb-true}
 use Rattle.laws.specs.Tests.{and-l, and-r}
 use Rattle.rules.specs.declared.Row.{Row}
 use Rattle.rules.specs.declared.Book.{Book}
 use Rattle.rules.specs.Limits.{day, rowLimit, ticketLimit}
-use Rattle.rules.specs.Rows.{load, keep, insertAll}
+use Rattle.rules.specs.Rows.{keep, insertAll}
 use Rattle.rules.specs.Plan.{Stay, Permitted, arrival, runRows}
 use Rattle.rules.specs.Book.{WellFormed, bookOf, otherTicket}
 use Rattle.rules.specs.Chosen.{Chosen}

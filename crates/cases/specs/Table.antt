@@ -14,12 +14,13 @@ use Rattle.rules.specs.Plan.{Stay, arrival}
 use Rattle.cases.specs.Checks.{every, under, lexB, samePlan, sameRows, sameAnswer}
 use Rattle.cases.specs.Edges.{endIn}
 use Rattle.cases.specs.Next.{scan, leastEntry}
-use Rattle.cases.specs.Listing.{wins}
+use Rattle.cases.specs.Listing.{windowsBelow}
 use Rattle.cases.specs.Entries.{allBelow, entriesB}
-use Rattle.cases.specs.Trail.{rivalB, priorB, firstB, trailB, laterB, chosenB, closedB, noneB}
+use Rattle.cases.specs.Trail.{rivalB, priorB, beginsB, trailB, laterB, chosenB, closedB, noneB}
+use Rattle.cases.specs.Permits.{freeB, permittedB}
 use Rattle.cases.specs.Barn.{planB, refusedB}
 use Rattle.cases.specs.Past.{Past, empty, booked, cancelled, rowsNow, pastB}
-use Rattle.cases.specs.Case.{Case, plans, refuses, books, cancels, pages, Means, caseB, case-means}
+use Rattle.cases.specs.Case.{Case, plans, permits, refuses, books, cancels, pages, Means, caseB, case-means}
 
 -- "Stays are written place:entry-exit."
 abbrev stay : ℕ → ℕ → ℕ → Stay
@@ -67,6 +68,7 @@ table =
     -- 6. "Only 3 to 3 at 30 booked. 0 to 3 at 0: 0:0-10, 1:10-40, 3:40-50, the way through 2 being equal."
     ∷ books empty 3 3 30 (stay 3 30 40 ∷ []) 1 40
     ∷ plans standing 0 3 0 (stay 0 0 10 ∷ stay 1 10 40 ∷ stay 3 40 50 ∷ []) 50
+    ∷ permits standing 0 3 0 (stay 0 0 10 ∷ stay 2 10 40 ∷ stay 3 40 50 ∷ []) 50
     -- 7. "Empty, 3 to 3 at 86,390: arrival 86,400. At 86,391: refused 5. At 86,401: refused 4."
     ∷ plans empty 3 3 86390 (stay 3 86390 86400 ∷ []) 86400
     ∷ refuses empty 3 3 86391 NoPlan
@@ -85,7 +87,7 @@ allCases [] = true
 allCases (c ∷ cs) = caseB c && allCases cs
 
 table-test : allCases table ≡ true
-unfolding allCases caseB pastB planB refusedB every under lexB samePlan sameRows sameAnswer endIn scan leastEntry wins allBelow entriesB rivalB priorB firstB trailB laterB chosenB closedB noneB lessb covers load crosses linked arrival
+unfolding allCases caseB pastB planB refusedB every under lexB samePlan sameRows sameAnswer endIn scan leastEntry windowsBelow allBelow entriesB rivalB priorB beginsB trailB laterB chosenB closedB noneB freeB permittedB lessb covers load crosses linked arrival
 table-test = refl
 
 all-mean : (cs : List Case) → allCases cs ≡ true → (c : Case) → List·Memᴰ c cs → Means c

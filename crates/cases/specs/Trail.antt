@@ -1,9 +1,9 @@
 -- The chosen plan by a test. With the earliest entry of every window at hand, the destination's window and each window before are compared
 -- with all others; a plan that stands the test is the chosen one, and where no window of the destination has an entry there is no plan.
 use Prim.Native.Nat.{ℕ, zero, suc, _+_, _≤_, _<_}
-use mathlib.Core.Path.{_≡_, refl, sym, ap, subst, subst₂, _∙_}
-use mathlib.Core.Logic.{_⊎_, inl, inr, ⊎-elim}
-use mathlib.Core.Bool.{Bool, true, false, _&&_, _||_}
+use mathlib.Core.Path.{_≡_, ap, subst, subst₂, _∙_}
+use mathlib.Core.Logic.{_⊎_, ⊎-elim}
+use mathlib.Core.Bool.{Bool, true, _&&_, _||_}
 use mathlib.Core.List.{List, [], _∷_}
 use native.Mathlib.Omega.{arith}
 use lib.ListN.{length, getD}
@@ -11,14 +11,13 @@ use lib.Dec.{eqb, leb, ltb}
 use borrow.Author.Tests.{eqb-true, leb-true, ltb-true, eq-eqb}
 use Rattle.laws.specs.Tests.{and-l, and-r, or-out}
 use Rattle.rules.specs.declared.Row.{Row}
-use Rattle.rules.specs.Limits.{day}
 use Rattle.rules.specs.Map.{Yard}
 use Rattle.rules.specs.Rows.{load}
 use Rattle.rules.specs.Plan.{Stay, Permitted}
-use Rattle.rules.specs.Window.{Window, Span, Enters, Earliest, Yields}
-use Rattle.rules.specs.Chosen.{LexLe, Goal, Prior, Back, first, prior, Chosen}
+use Rattle.rules.specs.Window.{Span, Enters, Earliest, Yields}
+use Rattle.rules.specs.Chosen.{LexLe, Prior, Back, first, prior, Chosen}
 use Rattle.lanes.specs.Yards.{YardRules}
-use Rattle.lanes.specs.Reach.{Enter, Soonest}
+use Rattle.lanes.specs.Reach.{Enter}
 use Rattle.lanes.specs.Best.{plan-last, enters-enter, enter-enters, soonest-earliest}
 use Rattle.cases.specs.Checks.{every, holds, under, under-out, lexB, lex-out, samePlan, same-plan}
 use Rattle.cases.specs.Next.{mark, leastEntry, least-yields, yields-least}
@@ -45,16 +44,16 @@ module _ (Y : Yard) (B : List Row) (start dest s : ℕ) (ws : List Span) (dist b
   unfoldable pub priorB : ℕ → ℕ → Bool
   priorB i j = every (priorTests i j)
 
-  unfoldable pub firstB : ℕ → Bool
-  firstB j = eqb ((W j) .place) start && eqb (D j) s
+  unfoldable pub beginsB : ℕ → Bool
+  beginsB j = eqb ((W j) .place) start && eqb (D j) s
 
   abbrev stay : ℕ → ℕ → Stay
   stay i u = record { place = (W i) .place; entry = D i; exit = u }
 
   -- walked back from j, with the stays after it, in at most so many steps, the plan is this one
   unfoldable pub trailB : ℕ → ℕ → List Stay → List Stay → Bool
-  trailB zero j after plan = firstB j && samePlan after plan
-  trailB (suc k) j after plan = (firstB j && samePlan after plan) || (priorB (getD back j 0) j && trailB k (getD back j 0) (stay (getD back j 0) (D j) ∷ after) plan)
+  trailB zero j after plan = beginsB j && samePlan after plan
+  trailB (suc k) j after plan = (beginsB j && samePlan after plan) || (priorB (getD back j 0) j && trailB k (getD back j 0) (stay (getD back j 0) (D j) ∷ after) plan)
 
   -- i is no window of the destination that is entered before j
   unfoldable pub laterB : ℕ → ℕ → Bool
@@ -117,8 +116,8 @@ module _ (Y : Yard) (B : List Row) (start dest s : ℕ) (ws : List Span) (dist b
                 subst₂ (λ (v : Span) (a : ℕ). LexLe (D i) ((W i) .place) ((W i) .from) a (v .place) (v .from)) (f .2) z (lex-out (D i) ((W i) .place) ((W i) .from) (D (f .0)) ((W (f .0)) .place) ((W (f .0)) .from) r);
           }
 
-      first-is : (j : ℕ) (after plan : List Stay) → (firstB j && samePlan after plan) ≡ true → Back Y B start dest s (W j) (D j) after plan
-      unfolding firstB
+      first-is : (j : ℕ) (after plan : List Stay) → (beginsB j && samePlan after plan) ≡ true → Back Y B start dest s (W j) (D j) after plan
+      unfolding beginsB
       first-is j after plan t =
           let a = and-l (eqb ((W j) .place) start && eqb (D j) s) (samePlan after plan) t in
           subst (Back Y B start dest s (W j) (D j) after) (same-plan after plan (and-r (eqb ((W j) .place) start && eqb (D j) s) (samePlan after plan) t))
@@ -130,7 +129,7 @@ module _ (Y : Yard) (B : List Row) (start dest s : ℕ) (ws : List Span) (dist b
       trail-is (suc k) j after plan h m t =
           ⊎-elim (λ x. first-is j after plan x)
           (λ x. step (and-l (priorB (getD back j 0) j) _ x) (λ h′ m′. trail-is k (getD back j 0) (stay (getD back j 0) (D j) ∷ after) plan h′ m′ (and-r (priorB (getD back j 0) j) _ x)))
-          (or-out (firstB j && samePlan after plan) _ t)
+          (or-out (beginsB j && samePlan after plan) _ t)
         where
           i : ℕ
           i = getD back j 0
