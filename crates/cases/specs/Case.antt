@@ -266,14 +266,38 @@ books-mean h start dest s plan k a t =
       answer = A;
       formed = subst (λ (n : ℕ). WellFormed barn (rowsNow (booked h start dest s plan)) (n + 1)) e (past-formed (booked h start dest s plan) past);
       says =
-          inr (barn-good, inr (good h W, inr ((on, to), inr (d, inr (before, inr ((plan, subst (λ (l : List Row). Permitted barn l start dest s plan) here (A .permitted)),
-          (plan, subst (λ (l : List Row). Chosen barn l start dest s plan) here (A .chosen), inr (fits, record {
-            code = refl;
-            issues = sym e;
-            arrives = sym (eqb-true (arrival plan) a (holds ts t 2));
-            counts = refl;
-            holds = ap (λ (l : List Row). bookOf (insertAll (runRows (nextTicket h) plan) l) (nextTicket h + 1)) here;
-          }))))))));
+          inr (
+            barn-good,
+            inr (
+              good h W,
+              inr (
+                (on, to),
+                inr (
+                  d,
+                  inr (
+                    before,
+                    inr (
+                      (plan, subst (λ (l : List Row). Permitted barn l start dest s plan) here (A .permitted)),
+                      (
+                        plan,
+                        subst (λ (l : List Row). Chosen barn l start dest s plan) here (A .chosen),
+                        inr (
+                          fits,
+                          record {
+                            code = refl;
+                            issues = sym e;
+                            arrives = sym (eqb-true (arrival plan) a (holds ts t 2));
+                            counts = refl;
+                            holds = ap (λ (l : List Row). bookOf (insertAll (runRows (nextTicket h) plan) l) (nextTicket h + 1)) here;
+                          },
+                        ),
+                      ),
+                    ),
+                  ),
+                ),
+              ),
+            ),
+          );
     }
 
 cancels-mean : (h : Past) (k n : ℕ) → every (cancelCase h k n) ≡ true → Cancels h k n
@@ -288,11 +312,20 @@ cancels-mean h k n t =
     record {
       formed = past-formed (cancelled h k) (holds ts t 0);
       says =
-          inr (barn-good, inr (good h W, inr (subst (λ (l : List Row). Known l k) here (record { row = _; booked = m .0; has = eqb-true _ k (m .1) }), record {
-            code = refl;
-            counts = sym e ∙ ap (λ (l : List Row). length (keep (ofTicket k) l)) here;
-            holds = ap (λ (l : List Row). bookOf (keep (otherTicket k) l) (nextTicket h)) here;
-          })));
+          inr (
+            barn-good,
+            inr (
+              good h W,
+              inr (
+                subst (λ (l : List Row). Known l k) here (record { row = _; booked = m .0; has = eqb-true _ k (m .1) }),
+                record {
+                  code = refl;
+                  counts = sym e ∙ ap (λ (l : List Row). length (keep (ofTicket k) l)) here;
+                  holds = ap (λ (l : List Row). bookOf (keep (otherTicket k) l) (nextTicket h)) here;
+                },
+              ),
+            ),
+          );
     }
 
 pages-mean : (h : Past) (size : ℕ) (k : Key) (rows : List Row) (more : Bool) → every (pageCase h size k rows more) ≡ true → Pages h size k rows more
@@ -307,13 +340,28 @@ pages-mean h size k rows more t =
       shows = e;
       says = λ was l.
           subst (λ (rs : List Row). PageSays (GoodMap barnMap) (GoodBook barn (bookNow h)) barn rs size k was (written rows was) (Shows (record { count = length rows; more = more; cursor = cursorOf (lastKey k rows) }))) (sym (read h W))
-          (inr (barn-good, inr (good h W, inr ((leb-true 1 size (holds ts t 3), leb-true size pageLimit (holds ts t 4)), inr (fits, inr (l, record {
-            code = refl;
-            counts = ap (λ (x : List Row). length x) (sym e);
-            says = m;
-            hands = ap (λ (x : List Row). lastKey k x) (sym e);
-            holds = ap (λ (x : List Row). written x was) (sym e);
-          }))))));
+          (inr (
+            barn-good,
+            inr (
+              good h W,
+              inr (
+                (leb-true 1 size (holds ts t 3), leb-true size pageLimit (holds ts t 4)),
+                inr (
+                  fits,
+                  inr (
+                    l,
+                    record {
+                      code = refl;
+                      counts = ap (λ (x : List Row). length x) (sym e);
+                      says = m;
+                      hands = ap (λ (x : List Row). lastKey k x) (sym e);
+                      holds = ap (λ (x : List Row). written x was) (sym e);
+                    },
+                  ),
+                ),
+              ),
+            ),
+          ));
     }
 
 pub case-means : (c : Case) → caseB c ≡ true → Means c

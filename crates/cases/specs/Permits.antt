@@ -53,7 +53,7 @@ module _ (Y : Yard) (B : List Row) (dest : ℕ) where
       let p = eqb-true (x .place) dest (holds ts t 0) in
       let q = eqb-true (x .exit) (x .entry + Y .dur dest) (holds ts t 2) in
       let P : Permitted Y B dest dest (x .entry) (record { place = dest; entry = x .entry; exit = x .entry + Y .dur dest } ∷ []) =
-          alone (ltb-true dest (Y .places) (holds ts t 1)) room (leb-true (x .entry + Y .dur dest) day (holds ts t 3)) (free-is dest (x .entry) (x .entry + Y .dur dest) (holds ts t 4)) in
+      alone (ltb-true dest (Y .places) (holds ts t 1)) room (leb-true (x .entry + Y .dur dest) day (holds ts t 3)) (free-is dest (x .entry) (x .entry + Y .dur dest) (holds ts t 4)) in
       subst (λ (z : Stay). Permitted Y B (z .place) dest (z .entry) (z ∷ [])) (λ i. record { place = sym p i; entry = x .entry; exit = sym q i }) P
   permitted-is room (x ∷ (y ∷ ys)) t =
       let ts = stayTests x y (permittedB (y ∷ ys)) in
