@@ -193,11 +193,10 @@ permits-mean h start dest s plan a t =
     let q = eqb-true ((stayAt plan 0) .entry) s (holds ts t 3) in
     record { permitted = subst₂ (λ x y. Permitted barn (rowsNow h) x dest y plan) p q P; arrives = eqb-true (arrival plan) a (holds ts t 4) }
 
-off-map : (h : Past) (start dest s : ℕ) → every (refuseCase h start dest s OffMap) ≡ true → Refuses h start dest s OffMap
-off-map h start dest s t =
-    let ts = refuseCase h start dest s OffMap in
-    let W = past-formed h (holds ts t 0) in
-    let off : (start < 4) × (dest < 4) → ⊥ = λ on. not-both (and-in (lt-ltb start 4 (on .0)) (lt-ltb dest 4 (on .1))) (not-true (ltb start 4 && ltb dest 4) (holds ts t 1)) in
+-- a start or destination off the map is refused beside any book
+pub off-map : (h : Past) (start dest s : ℕ) → pastB h ≡ true → ((start < 4) × (dest < 4) → ⊥) → Refuses h start dest s OffMap
+off-map h start dest s t off =
+    let W = past-formed h t in
     record { formed = W; why = off; says = λ was. plan-says h W (inr (barn-good, inr (good h W, inl (off, record { code = refl; arrives = refl; counts = refl; holds = refl })))) }
 
 off-day : (h : Past) (start dest s : ℕ) → every (refuseCase h start dest s OffDay) ≡ true → Refuses h start dest s OffDay
@@ -234,7 +233,9 @@ no-test t = absurd (not-both (holds (false ∷ []) t 0) refl)
 refuses-mean : (h : Past) (start dest s : ℕ) (r : Refusal) → every (refuseCase h start dest s r) ≡ true → Refuses h start dest s r
 refuses-mean h start dest s BadMap t = no-test t
 refuses-mean h start dest s BadBook t = no-test t
-refuses-mean h start dest s OffMap t = off-map h start dest s t
+refuses-mean h start dest s OffMap t =
+    let ts = refuseCase h start dest s OffMap in
+    off-map h start dest s (holds ts t 0) (λ on. not-both (and-in (lt-ltb start 4 (on .0)) (lt-ltb dest 4 (on .1))) (not-true (ltb start 4 && ltb dest 4) (holds ts t 1)))
 refuses-mean h start dest s OffDay t = off-day h start dest s t
 refuses-mean h start dest s NoPlan t = no-way h start dest s t
 refuses-mean h start dest s ShortList t = no-test t

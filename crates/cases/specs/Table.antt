@@ -5,6 +5,7 @@ use mathlib.Core.Path.{_≡_, refl, sym, subst}
 use mathlib.Core.Logic.{⊎-elim}
 use mathlib.Core.Bool.{Bool, true, false, _&&_}
 use mathlib.Core.List.{List, [], _∷_, List·Memᴰ, List·Memᴰ·not-nil, List·Memᴰ·cases-cons}
+use native.Mathlib.Omega.{arith}
 use Rattle.laws.specs.Tests.{and-l, and-r}
 use Rattle.rules.specs.declared.Row.{Row}
 use Rattle.rules.specs.declared.Refusal.the-variants.{OffMap, OffDay, NoPlan}
@@ -20,7 +21,7 @@ use Rattle.cases.specs.Trail.{rivalB, priorB, beginsB, trailB, laterB, c
 use Rattle.cases.specs.Permits.{freeB, permittedB}
 use Rattle.cases.specs.Barn.{planB, refusedB}
 use Rattle.cases.specs.Past.{Past, empty, booked, cancelled, rowsNow, pastB}
-use Rattle.cases.specs.Case.{Case, plans, permits, refuses, books, cancels, pages, Means, caseB, case-means}
+use Rattle.cases.specs.Case.{Case, plans, permits, refuses, books, cancels, pages, Refuses, Means, caseB, off-map, case-means}
 
 -- "Stays are written place:entry-exit."
 abbrev stay : ℕ → ℕ → ℕ → Stay
@@ -98,6 +99,10 @@ all-mean (d ∷ cs) t c m = ⊎-elim (λ e. subst Means (sym e) (case-means d (a
 -- the table holds, as a whole
 pub table-holds : (c : Case) → List·Memᴰ c table → Means c
 table-holds = all-mean table table-test
+
+-- case 8 whatever the start, the second and the book's past
+pub destination-4 : (h : Past) → pastB h ≡ true → (start s : ℕ) → Refuses h start 4 s OffMap
+destination-4 h t start s = off-map h start 4 s t (λ on. omega (arith, on .1))
 
 -- the books as the rows that a page shows: place, entry, ticket, exit, next
 pub rows-one : rowsNow one ≡ row 0 0 1 10 1 ∷ row 1 10 1 30 3 ∷ row 3 30 1 40 3 ∷ []
