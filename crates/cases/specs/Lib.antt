@@ -1,0 +1,12 @@
+pub mod Edges
+pub mod Next
+pub mod Listing
+pub mod Entries
+pub mod Checks
+pub mod Trail
+pub mod Permits
+pub mod Maps
+pub mod Barn
+pub mod Past
+pub mod Case
+pub mod Table
