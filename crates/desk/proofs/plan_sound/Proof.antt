@@ -1,39 +1,77 @@
+use Prim.Native.Nat.{ℕ, suc, _+_, _-_, _*_, _/_, _%_, _≤_, _<_, min, max}
+use mathlib.Core.Path.{_≡_, refl, sym, ap, subst, _∙_}
+use mathlib.Core.Logic.{_⊎_, inl, inr, ⊎-elim}
+use mathlib.Core.Bool.{Bool, true, false, not}
+use mathlib.Core.List.{List}
+use native.Mathlib.Omega.{arith}
+use lib.ListN.{length, getD, set, take, drop}
 use borrow.Author.Needs.{needs}
+use lib.ListN.{getD-replicate}
+use Rattle.rules.specs.declared.Row.{Row}
+use Rattle.desk.specs.Planning.{route-fits, route-long, route-arrives, plan-off-map, plan-off-day, plan-none, plan-short, plan-done}
+use Rattle.laws.specs.Lists.{at}
+use Rattle.flat.specs.Laws.{places-long}
+use Rattle.lanes.specs.Yards.{yard-rules}
+use Rattle.search.specs.Lanes.{Lanes, lanes-ground}
+use Rattle.planner.specs.Choice.{planOf}
+use Rattle.planner.specs.Route.{Routed, PathFits, last-arrives}
+use Rattle.planner.proofs.route.Reads as route-reads
+use Rattle.planner.proofs.step_at.Reads as step-at-reads
+use Rattle.planner.proofs.write_plan.Reads as write-plan-reads
 use Rattle.desk.proofs.plan_sound.Statement.{statement}
 use Rattle.desk.proofs.plan_sound.Tie as tie
 use Rattle.desk.proofs.plan_sound.Reads as reads
 use Rattle.desk.proofs.plan_sound.Lts as lts
-use Rattle.planner.proofs.route.Reads as route-reads
-use Rattle.planner.proofs.step_at.Reads as step-at-reads
-use Rattle.planner.proofs.write_plan.Reads as write-plan-reads
 
 -- src/lib.rt:45:9
 returns : tie.Need-returns
-returns c = search needs
+returns c =
+    let a = c .before .before .args in
+    let l = places-long (a .cap .now) (a .dur .now) (a .n) in
+    plan-off-map (λ h. let x = h .0 in omega (arith, c .if1 .taken)) refl
 
 -- src/lib.rt:48:9
 returns-2 : tie.Need-returns-2
-returns-2 c = search needs
+returns-2 c =
+    let a = c .before .before .before .args in
+    let l = places-long (a .cap .now) (a .dur .now) (a .n) in
+    plan-off-map (λ h. let x = h .1 in omega (arith, c .if2 .taken)) refl
 
 -- src/lib.rt:51:9
 returns-3 : tie.Need-returns-3
-returns-3 c = search needs
+returns-3 c =
+    let a = c .before .before .before .before .args in
+    let l = places-long (a .cap .now) (a .dur .now) (a .n) in
+    plan-off-day (omega (arith, c .before .before .if1 .left), omega (arith, c .before .if2 .left)) (c .if3 .taken) refl
 
 -- src/lib.rt:55:9
 route-requires : tie.Need-route-requires
-route-requires c κs = search needs
+route-requires c κs =
+    let P = c .before .before .before .before .before .before .pre in
+    (P .0, (P .1, ((c .before .before .before .before .if1 .left, c .before .before .before .if2 .left, c .before .before .if3 .left), (λ v h. getD-replicate 1280 v 86401 0 h, (refl, refl)))))
 
 -- src/lib.rt:57:9
 returns-4 : tie.Need-returns-4
-returns-4 c = search needs
+returns-4 c =
+    let a = c .before .before .before .before .before .before .before .before .args in
+    let l = places-long (a .cap .now) (a .dur .now) (a .n) in
+    plan-none (omega (arith, c .before .before .before .before .before .before .if1 .left), omega (arith, c .before .before .before .before .before .if2 .left)) (c .before .before .before .before .if3 .left) (c .before .route .ensures .none (c .if4 .taken)) refl
 
 -- src/lib.rt:60:9
 returns-5 : tie.Need-returns-5
-returns-5 c = search needs
+returns-5 c =
+    let a = c .before .before .before .before .before .before .before .before .before .args in
+    let P = c .before .before .before .before .before .before .before .before .before .pre in
+    let l = places-long (a .cap .now) (a .dur .now) (a .n) in
+    let R = c .before .before .route .ensures in
+    let F = route-fits (lanes-ground (P .0)) R in
+    plan-short (omega (arith, c .before .before .before .before .before .before .before .if1 .left), omega (arith, c .before .before .before .before .before .before .if2 .left)) (c .before .before .before .before .before .if3 .left) (yard-rules (P .0 .rules)) (P .1) (R .chosen (omega (arith, c .before .if4 .left))) (omega (arith, route-long F, c .if5 .taken)) refl
 
 -- src/lib.rt:62:5
 write-plan-requires : tie.Need-write-plan-requires
-write-plan-requires c κs = search needs
+write-plan-requires c κs =
+    let P = c .before .before .before .before .before .before .before .before .before .before .before .before .pre in
+    (route-fits (lanes-ground (P .0)) (c .before .before .before .before .before .route .ensures), omega (arith, c .before .before .before .if5 .left))
 
 -- src/lib.rt:63:63
 sub-step-at : tie.Need-sub-step-at
@@ -41,7 +79,9 @@ sub-step-at c = search needs
 
 -- src/lib.rt:63:9
 step-at-requires : tie.Need-step-at-requires
-step-at-requires c κs = search needs
+step-at-requires c κs =
+    let P = c .before .before .before .before .before .before .before .before .before .before .before .before .before .before .before .before .before .pre in
+    (route-fits (lanes-ground (P .0)) (c .before .before .before .before .before .before .before .before .before .before .route .ensures), omega (arith, c .before .before .before .before .before .before .before .before .before .if4 .left))
 
 -- src/lib.rt:15:1
 same-length : tie.Need-same-length
@@ -49,7 +89,15 @@ same-length c = search needs
 
 -- src/lib.rt:15:1
 returns-6 : tie.Need-returns-6
-returns-6 c = search needs
+returns-6 c =
+    let a = c .before .before .before .before .before .before .before .before .before .before .before .before .before .before .before .before .before .before .args in
+    let P = c .before .before .before .before .before .before .before .before .before .before .before .before .before .before .before .before .before .before .pre in
+    let l = places-long (a .cap .now) (a .dur .now) (a .n) in
+    let R = c .before .before .before .before .before .before .before .before .before .before .before .route .ensures in
+    let F = route-fits (lanes-ground (P .0)) R in
+    let h : 0 < c .before .before .before .before .before .before .before .before .before .before .before .route .result = omega (arith, c .before .before .before .before .before .before .before .before .before .before .if4 .left) in
+    plan-done (omega (arith, c .before .before .before .before .before .before .before .before .before .before .before .before .before .before .before .before .if1 .left), omega (arith, c .before .before .before .before .before .before .before .before .before .before .before .before .before .before .before .if2 .left)) (c .before .before .before .before .before .before .before .before .before .before .before .before .before .before .if3 .left) (yard-rules (P .0 .rules)) (P .1) (R .chosen h) (omega (arith, route-long F, c .before .before .before .before .before .before .before .before .before .if5 .left))
+      (route-arrives 0 F h ∙ sym (ap (λ (x : Row). x .exit) (c .step-at .ensures))) (route-long F) (c .before .before .before .before .before .write-plan .ensures)
 
 pub plan-sound-spec : {M : Type 1} → statement M
 plan-sound-spec =
