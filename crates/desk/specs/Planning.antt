@@ -10,12 +10,12 @@ use Rattle.laws.specs.Lists.{at}
 use Rattle.rules.specs.declared.Row.{Row}
 use Rattle.rules.specs.declared.Planned.{Planned}
 use Rattle.rules.specs.declared.Planned.the-variants.{Done, Refused}
-use Rattle.rules.specs.declared.Refusal.the-variants.{OffMap, OffDay, NoPlan, ShortList}
+use Rattle.rules.specs.declared.Refusal.the-variants.{BadMap, BadBook, OffMap, OffDay, NoPlan, ShortList}
 use Rattle.rules.specs.Map.{Yard}
 use Rattle.rules.specs.Rows.{load, rowAt}
 use Rattle.rules.specs.Plan.{Stay, Permitted, arrival, runRows}
 use Rattle.rules.specs.Chosen.{Chosen}
-use Rattle.rules.specs.Answer.{PlanSound, PlanRefused, Unless, written, records}
+use Rattle.rules.specs.Answer.{PlanSays, PlanSound, PlanRefused, Unless, written, records}
 use Rattle.lanes.specs.Yards.{YardRules}
 use Rattle.lanes.specs.Chosen.{chosen-best}
 use Rattle.flat.specs.Links.{group-place}
@@ -74,3 +74,12 @@ pub route-arrives : {D P lab path : List ℕ} {r : ℕ} (t : ℕ) → PathFits D
 route-arrives {D} {P} {lab} {path} {r} t F h =
     let l : suc (r - 1) ≡ length (take r path) = (let z = length-take-le r path (omega (arith, F .few, F .long)) in omega arith) in
     last-arrives D P lab (take r path) (r - 1) l ∙ sym (ap (λ (x : Row). x .exit) (row-last D P lab t (take r path) (r - 1) l))
+
+-- ---- with the map and the book tested first
+
+module _ {map-ok book-ok : Type 0} {Y : Yard} {rows : List Row} {start dest s : ℕ} {was out : List ℕ} where
+  pub plan-bad-map : (map-ok → ⊥) → was ≡ out → PlanSays map-ok book-ok Y rows start dest s was out (Refused BadMap)
+  plan-bad-map h e = inl (h, record { code = refl; arrives = refl; counts = refl; holds = sym e })
+
+  pub plan-bad-book : map-ok → (book-ok → ⊥) → was ≡ out → PlanSays map-ok book-ok Y rows start dest s was out (Refused BadBook)
+  plan-bad-book m h e = inr (m, inl (h, record { code = refl; arrives = refl; counts = refl; holds = sym e }))

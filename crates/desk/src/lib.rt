@@ -66,3 +66,40 @@ fn plan_sound(
         count: c,
     })
 }
+
+// Planning over arrays: 1, 2, 3, 4, 5, 6, or the plan.
+pub fn plan_flat(
+    n: usize,
+    k: usize,
+    cap: &[u8; 256],
+    dur: &[u32; 256],
+    from: &[u8; 1024],
+    to: &[u8; 1024],
+    count: usize,
+    next_ticket: u32,
+    key: &[u64; 1024],
+    exit: &[u32; 1024],
+    next: &[u8; 1024],
+    origin: u32,
+    dest: u32,
+    s: u32,
+    out: &mut [u8],
+) -> Planned
+    requires { ⌜ Packed (now key) (now exit) ⌝ }
+    ensures { λ r. ⌜ PlanSays (MapRules (placesIn (now (cap .entry)) (now (dur .entry)) n) (linksIn (now (from .entry)) (now (to .entry)) k)) (WellFormed (yardIn (now (cap .entry)) (now (dur .entry)) n (now (from .entry)) (now (to .entry)) k) (rowsIn (now (key .entry)) (now (exit .entry)) (now (next .entry)) count) «next_ticket») (yardIn (now (cap .entry)) (now (dur .entry)) n (now (from .entry)) (now (to .entry)) k) (rowsIn (now (key .entry)) (now (exit .entry)) (now (next .entry)) count) origin dest s (now (out .entry)) (now (out .exit)) r ⌝ }
+{
+    let mut head = [0u16; 256];
+    let mut chain = [0u16; 1024];
+    let mut place = [0u8; 1280];
+    let mut start = [0u32; 1280];
+    let mut end = [0u32; 1280];
+    let mut first = [0u16; 257];
+    let m = vet::vet(n, k, cap, dur, from, to, &mut head, &mut chain, count, next_ticket, key, exit, next, &mut start, &mut end, &mut place, &mut first);
+    if m >= 1282 {
+        return Planned::Refused(Refusal::BadMap);
+    }
+    if m >= 1281 {
+        return Planned::Refused(Refusal::BadBook);
+    }
+    plan_sound(n, k, m, cap, dur, from, to, &head, &chain, &place, &start, &end, &first, key, exit, next, count, origin, dest, s, out)
+}
