@@ -3,16 +3,22 @@
 use Prim.Native.Nat.{ℕ, zero, suc, _+_, _-_, _≤_, _<_, zero-le}
 use mathlib.Core.Path.{_≡_, refl, sym, ap, subst, _∙_}
 use mathlib.Core.Logic.{⊎-elim}
-use mathlib.Core.Bool.{Bool, true, false}
 use mathlib.Core.List.{List, [], _∷_}
 use native.Mathlib.Omega.{arith}
 use lib.ListN.{length, take, drop, length-drop}
 use lib.Seq.{take-all, drop-nil}
+use lib.Dec.{ltb}
 use Rattle.laws.specs.Order.{lt-or-ge}
-use Rattle.laws.specs.Lists.{tabulate}
+use Rattle.laws.specs.Lists.{at, tabulate, length-tabulate}
 use Rattle.rules.specs.declared.Row.{Row}
-use Rattle.rules.specs.Rows.{Key, rowKey, rowAt, lessb}
+use Rattle.rules.specs.declared.Shown.{Shown}
+use Rattle.rules.specs.declared.Paged.the-variants.{Done}
+use Rattle.rules.specs.Rows.{Key, rowKey, cursorKey}
 use Rattle.rules.specs.Page.{after, pageRows, lastKey}
+use Rattle.rules.specs.Answer.{written, PageDone}
+use Rattle.flat.specs.Flat.{rowOf, rowsIn}
+use Rattle.flat.specs.Laws.{rows-long}
+use Rattle.wire.specs.Tables.{rowsFor, rows-for}
 use Rattle.pages.specs.Search.{FirstAfter}
 
 -- the rows from the first above a key on are the rows above it
@@ -50,3 +56,49 @@ pub last-tabulate : (k : Key) (m : ℕ) (f : ℕ → Row) → lastKey k (tabulat
 unfolding tabulate
 last-tabulate k zero f = refl
 last-tabulate k (suc m) f = last-tabulate (rowKey (f 0)) m (λ i. f (suc i))
+
+-- the last of n rows of the arrays from an index on
+module _ (K X N : List ℕ) (from n : ℕ) (k : Key) where
+  pub last-none : n ≡ 0 → k ≡ lastKey k (rowsFor K X N from n)
+  unfolding tabulate
+  last-none e = rw e
+
+  pub last-some : {r : Row} → (n ≡ 0 → ⊥) → r ≡ rowOf (at K (from + (n - 1))) (at X (from + (n - 1))) (at N (from + (n - 1))) → rowKey r ≡ lastKey k (rowsFor K X N from n)
+  last-some some e = ap rowKey e ∙ sym (by n some)
+    where
+      by : (n : ℕ) → (n ≡ 0 → ⊥) → lastKey k (rowsFor K X N from n) ≡ rowKey (rowOf (at K (from + (n - 1))) (at X (from + (n - 1))) (at N (from + (n - 1))))
+      by zero h = absurd (h refl)
+      by (suc m) h = last-tabulate k m (λ i. rowOf (at K (from + i)) (at X (from + i)) (at N (from + i)))
+
+-- the rows of the arrays above a key, from the index of the first of them on
+module _ (K X N : List ℕ) (count : ℕ) (k : Key) {first : ℕ} (F : FirstAfter (rowsIn K X N count) k first) where
+  pub first-within : first ≤ count
+  first-within = omega (arith, F .within, rows-long K X N count)
+
+  pub after-long : length (after k (rowsIn K X N count)) ≡ count - first
+  after-long =
+      ap length (sym (drop-first (rowsIn K X N count) k first F))
+      ∙ length-drop first (rowsIn K X N count)
+      ∙ ap (λ (n : ℕ). n - first) (rows-long K X N count)
+
+  -- a page is a run of the arrays' rows
+  pub page-run : (size n : ℕ) → Lesser size (count - first) n → pageRows size k (rowsIn K X N count) ≡ rowsFor K X N first n
+  page-run size n f =
+      take-lesser size (after k (rowsIn K X N count)) {m = n} (rw after-long f)
+      ∙ ap (take n) (sym (drop-first (rowsIn K X N count) k first F))
+      ∙ sym (rows-for K X N first n count (omega (arith, f .right, first-within)))
+
+  -- the answer of a page, of its parts
+  pub page-done : (size : ℕ) (was out : List ℕ) (s : Shown) → Lesser size (count - first) (s .count) → s .more ≡ ltb size (count - first)
+      → cursorKey (s .cursor) ≡ lastKey k (rowsFor K X N first (s .count))
+      → out ≡ written (rowsFor K X N first (s .count)) was
+      → PageDone (rowsIn K X N count) size k was out (Done s)
+  page-done size was out s f m c o =
+      let e = page-run size (s .count) f in
+      record {
+        code = refl;
+        counts = rw e (sym (length-tabulate (s .count) (λ i. rowOf (at K (first + i)) (at X (first + i)) (at N (first + i)))));
+        says = rw after-long m;
+        hands = rw e c;
+        holds = rw e o;
+      }
