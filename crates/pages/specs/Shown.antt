@@ -68,7 +68,7 @@ module _ (K X N : List ℕ) (from n : ℕ) (k : Key) where
     where
       by : (n : ℕ) → (n ≡ 0 → ⊥) → lastKey k (rowsFor K X N from n) ≡ rowKey (rowOf (at K (from + (n - 1))) (at X (from + (n - 1))) (at N (from + (n - 1))))
       by zero h = absurd (h refl)
-      by (suc m) h = last-tabulate k m (λ i. rowOf (at K (from + i)) (at X (from + i)) (at N (from + i)))
+      by (suc m) h = let o : suc m - 1 ≡ m = omega arith in rw o (last-tabulate k m (λ i. rowOf (at K (from + i)) (at X (from + i)) (at N (from + i))))
 
 -- the rows of the arrays above a key, from the index of the first of them on
 module _ (K X N : List ℕ) (count : ℕ) (k : Key) {first : ℕ} (F : FirstAfter (rowsIn K X N count) k first) where

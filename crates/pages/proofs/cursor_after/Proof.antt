@@ -2,12 +2,15 @@
 use mathlib.Core.Path.{_≡_, refl, sym, _∙_}
 use native.Mathlib.Omega.{arith}
 use borrow.Author.Needs.{needs}
+use Rattle.rules.specs.Rows.{cursorKey}
 use Rattle.pages.specs.Shown.{last-none, last-some}
 use Rattle.pages.proofs.cursor_after.Statement.{statement}
 use Rattle.pages.proofs.cursor_after.Tie as tie
 
 returns : tie.Need-returns
-returns c = last-none _ _ _ _ _ _ (c .if1 .taken)
+returns c =
+    let a = c .before .args in
+    last-none (a .key .now) (a .exit .now) (a .next .now) (a .from) (a .n) (cursorKey (a .c)) (c .if1 .taken)
 
 sub-row-at : tie.Need-sub-row-at
 sub-row-at c = search needs
@@ -22,7 +25,10 @@ moved-requires : tie.Need-moved-requires
 moved-requires c κs = search needs
 
 returns-2 : tie.Need-returns-2
-returns-2 c = c .moved .ensures ∙ last-some _ _ _ _ _ _ (c .before .before .if1 .left) (c .before .row-at .ensures)
+returns-2 c =
+    let a = c .before .before .before .args in
+    c .moved .ensures
+    ∙ last-some (a .key .now) (a .exit .now) (a .next .now) (a .from) (a .n) (cursorKey (a .c)) (c .before .before .if1 .left) (c .before .row-at .ensures)
 
 pub cursor-after-spec : {M : Type 1} → statement M
 cursor-after-spec = tie.close (tie.spec returns sub-row-at add-row-at row-at-requires moved-requires returns-2)

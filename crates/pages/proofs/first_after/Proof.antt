@@ -58,7 +58,9 @@ loop-again-2 c =
     between-no (t .before .before .pre .1 .0) (t .before .loop .inv) (t .loop-test .taken) (sym (answer (c .before)) ∙ c .if1 .left)
 
 returns : tie.Need-returns Inv-loop μ-loop
-returns c = between-end _ _ _ (c .before .loop .inv) (c .loop-test .left)
+returns c =
+    let a = c .before .before .args in
+    between-end (a .key .now) (a .exit .now) (a .next .now) (c .before .loop .inv) (c .loop-test .left)
 
 pub first-after-spec : {M : Type 1} → statement M
 first-after-spec =

@@ -1,0 +1,4 @@
+pub mod Tables
+pub mod Written
+pub mod Reading
+pub mod Slices

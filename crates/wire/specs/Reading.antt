@@ -1,0 +1,204 @@
+-- Places, links and rows read from bytes into arrays of numbers, one a turn: what the arrays hold after i turns.
+-- The lists that the bytes stand for have their i-th entry at a fixed step, so arrays that agree with them index by index stand for the same lists.
+use Prim.Native.Nat.{ℕ, zero, suc, _+_, _*_, _<_}
+use mathlib.Core.Path.{_≡_, refl, sym, ap, _∙_}
+use mathlib.Core.List.{List, _∷_}
+use mathlib.Core.Logic.{⊎-elim}
+use native.Mathlib.Omega.{arith}
+use lib.ListN.{length, set, length-set}
+use lib.Seq.{getD-set-same, getD-set-other}
+use Rattle.laws.specs.Order.{eq-or-ne}
+use Rattle.laws.specs.Lists.{at, tabulate}
+use Rattle.rules.specs.declared.Place.{Place}
+use Rattle.rules.specs.declared.Link.{Link}
+use Rattle.rules.specs.Portal.{byteAt, num2, num3, placesFrom, linksFrom, rowIn, rowsFrom}
+use Rattle.flat.specs.Flat.{placesIn, linksIn, rowsIn, rowOf, placeOf, entryOf, ticketOf, keyOf, Packed}
+use Rattle.flat.specs.Laws.{place-of-key, entry-of-key, ticket-of-key}
+use Rattle.wire.specs.Tables.{tabulate-same}
+
+-- ---- the lists that the bytes stand for, by index
+
+abbrev pub placeBytes : List ℕ → ℕ → Place
+placeBytes s at = record { capacity = byteAt s at; duration = num2 s (at + 1) }
+
+abbrev pub linkBytes : List ℕ → ℕ → Link
+linkBytes s at = record { from = byteAt s at; to = byteAt s (at + 1) }
+
+pub places-table : (s : List ℕ) (a n : ℕ) → placesFrom s a n ≡ tabulate n (λ i. placeBytes s (a + 3 * i))
+unfolding tabulate
+places-table s a zero = refl
+places-table s a (suc n) =
+    let h : a ≡ a + 3 * 0 = omega arith in
+    let t = places-table s (a + 3) n ∙ tabulate-same n (λ i. placeBytes s (a + 3 + 3 * i)) (λ i. placeBytes s (a + 3 * suc i)) (λ i k. let e : a + 3 + 3 * i ≡ a + 3 * suc i = omega arith in ap (placeBytes s) e) in
+    λ i. placeBytes s (h i) ∷ t i
+
+pub links-table : (s : List ℕ) (a n : ℕ) → linksFrom s a n ≡ tabulate n (λ i. linkBytes s (a + 2 * i))
+unfolding tabulate
+links-table s a zero = refl
+links-table s a (suc n) =
+    let h : a ≡ a + 2 * 0 = omega arith in
+    let t = links-table s (a + 2) n ∙ tabulate-same n (λ i. linkBytes s (a + 2 + 2 * i)) (λ i. linkBytes s (a + 2 * suc i)) (λ i k. let e : a + 2 + 2 * i ≡ a + 2 * suc i = omega arith in ap (linkBytes s) e) in
+    λ i. linkBytes s (h i) ∷ t i
+
+pub rows-table : (s : List ℕ) (a n : ℕ) → rowsFrom s a n ≡ tabulate n (λ i. rowIn s (a + 11 * i))
+unfolding tabulate
+rows-table s a zero = refl
+rows-table s a (suc n) =
+    let h : a ≡ a + 11 * 0 = omega arith in
+    let t = rows-table s (a + 11) n ∙ tabulate-same n (λ i. rowIn s (a + 11 + 11 * i)) (λ i. rowIn s (a + 11 * suc i)) (λ i k. let e : a + 11 + 11 * i ≡ a + 11 * suc i = omega arith in ap (rowIn s) e) in
+    λ i. rowIn s (h i) ∷ t i
+
+-- one more number in an array that is read
+read-more : (l : List ℕ) (j v : ℕ) (f : ℕ → ℕ) → j < length l → ((i : ℕ) → i < j → at l i ≡ f i) → v ≡ f j → (i : ℕ) → i < j + 1 → at (set l j v) i ≡ f i
+read-more l j v f h old e i k =
+    ⊎-elim (λ (q : i ≡ j). ap (at (set l j v)) q ∙ getD-set-same l j v 0 h ∙ e ∙ ap f (sym q))
+    (λ (q : i ≡ j → ⊥). getD-set-other l j i v 0 q ∙ old i (omega arith))
+    (eq-or-ne i j)
+
+-- ---- places
+
+pub record PlacesRead (s : List ℕ) (j : ℕ) (C D : List ℕ) : Type 0 where
+  pub caps : (i : ℕ) → i < j → at C i ≡ byteAt s (4 + 3 * i)
+  pub durs : (i : ℕ) → i < j → at D i ≡ num2 s (4 + 3 * i + 1)
+  pub len-cap : length C ≡ 256
+  pub len-dur : length D ≡ 256
+
+pub no-places : (s C D : List ℕ) → length C ≡ 256 → length D ≡ 256 → PlacesRead s 0 C D
+no-places s C D a b = record { caps = λ i h. absurd (omega arith); durs = λ i h. absurd (omega arith); len-cap = a; len-dur = b }
+
+pub place-read : {s : List ℕ} {j : ℕ} {C D : List ℕ} (c d : ℕ) → PlacesRead s j C D → j < 256 → c ≡ byteAt s (4 + 3 * j) → d ≡ num2 s (4 + 3 * j + 1)
+    → PlacesRead s (j + 1) (set C j c) (set D j d)
+place-read {s} {j} {C} {D} c d P h p q = record {
+  caps = read-more C j c (λ i. byteAt s (4 + 3 * i)) (omega (arith, P .len-cap)) (P .caps) p;
+  durs = read-more D j d (λ i. num2 s (4 + 3 * i + 1)) (omega (arith, P .len-dur)) (P .durs) q;
+  len-cap = length-set C j c ∙ P .len-cap;
+  len-dur = length-set D j d ∙ P .len-dur;
+}
+
+-- the places of the slice, and the arrays' lengths
+pub record PlacesOf (s : List ℕ) (n : ℕ) (C D : List ℕ) : Type 0 where
+  pub are : placesIn C D n ≡ placesFrom s 4 n
+  pub len-cap : length C ≡ 256
+  pub len-dur : length D ≡ 256
+
+pub all-places : {s : List ℕ} {n : ℕ} {C D : List ℕ} → PlacesRead s n C D → PlacesOf s n C D
+all-places {s} {n} {C} {D} P = record {
+  are = tabulate-same n (λ p. record { capacity = at C p; duration = at D p }) (λ i. placeBytes s (4 + 3 * i)) (λ i h. let a = P .caps i h in let b = P .durs i h in λ x. record { capacity = a x; duration = b x })
+      ∙ sym (places-table s 4 n);
+  len-cap = P .len-cap;
+  len-dur = P .len-dur;
+}
+
+-- ---- links
+
+pub record LinksRead (s : List ℕ) (base j : ℕ) (F T : List ℕ) : Type 0 where
+  pub froms : (i : ℕ) → i < j → at F i ≡ byteAt s (base + 2 * i)
+  pub tos : (i : ℕ) → i < j → at T i ≡ byteAt s (base + 2 * i + 1)
+  pub len-from : length F ≡ 1024
+  pub len-to : length T ≡ 1024
+
+pub no-links : (s : List ℕ) (base : ℕ) (F T : List ℕ) → length F ≡ 1024 → length T ≡ 1024 → LinksRead s base 0 F T
+no-links s base F T a b = record { froms = λ i h. absurd (omega arith); tos = λ i h. absurd (omega arith); len-from = a; len-to = b }
+
+pub link-read : {s : List ℕ} {base j : ℕ} {F T : List ℕ} (f t : ℕ) → LinksRead s base j F T → j < 1024 → f ≡ byteAt s (base + 2 * j) → t ≡ byteAt s (base + 2 * j + 1)
+    → LinksRead s base (j + 1) (set F j f) (set T j t)
+link-read {s} {base} {j} {F} {T} f t P h p q = record {
+  froms = read-more F j f (λ i. byteAt s (base + 2 * i)) (omega (arith, P .len-from)) (P .froms) p;
+  tos = read-more T j t (λ i. byteAt s (base + 2 * i + 1)) (omega (arith, P .len-to)) (P .tos) q;
+  len-from = length-set F j f ∙ P .len-from;
+  len-to = length-set T j t ∙ P .len-to;
+}
+
+-- the links of the slice, and the arrays' lengths
+pub record LinksOf (s : List ℕ) (base k : ℕ) (F T : List ℕ) : Type 0 where
+  pub are : linksIn F T k ≡ linksFrom s base k
+  pub len-from : length F ≡ 1024
+  pub len-to : length T ≡ 1024
+
+pub all-links : {s : List ℕ} {base k : ℕ} {F T : List ℕ} → LinksRead s base k F T → LinksOf s base k F T
+all-links {s} {base} {k} {F} {T} P = record {
+  are = tabulate-same k (λ p. record { from = at F p; to = at T p }) (λ i. linkBytes s (base + 2 * i)) (λ i h. let a = P .froms i h in let b = P .tos i h in λ x. record { from = a x; to = b x })
+      ∙ sym (links-table s base k);
+  len-from = P .len-from;
+  len-to = P .len-to;
+}
+
+-- ---- rows
+
+-- a key read from a row's first seven bytes
+pub record KeyRead (s : List ℕ) (at key : ℕ) : Type 0 where
+  pub place : placeOf key ≡ byteAt s at
+  pub entry : entryOf key ≡ num3 s (at + 1)
+  pub ticket : ticketOf key ≡ num3 s (at + 4)
+  pub small : key < 72057594037927936
+
+pub key-read : {s : List ℕ} {a : ℕ} (p e t : ℕ) → p ≡ byteAt s a → p < 256 → e ≡ num3 s (a + 1) → e < 16777216 → t ≡ num3 s (a + 4) → t < 16777216
+    → KeyRead s a (keyOf p e t)
+key-read p e t a ha b hb c hc = record {
+  place = place-of-key p e t hb hc ∙ a;
+  entry = entry-of-key p e t hb hc ∙ b;
+  ticket = ticket-of-key p e t hb hc ∙ c;
+  small = omega arith;
+}
+
+pub record RowsRead (s : List ℕ) (j : ℕ) (K X N : List ℕ) : Type 0 where
+  pub rows : (i : ℕ) → i < j → rowOf (at K i) (at X i) (at N i) ≡ rowIn s (5 + 11 * i)
+  pub packed : Packed K X
+  pub len-key : length K ≡ 1024
+  pub len-exit : length X ≡ 1024
+  pub len-next : length N ≡ 1024
+
+pub no-rows : (s K X N : List ℕ) → length K ≡ 1024 → length X ≡ 1024 → length N ≡ 1024 → ((i : ℕ) → at K i ≡ 0) → ((i : ℕ) → at X i ≡ 0) → RowsRead s 0 K X N
+no-rows s K X N a b c zk zx = record {
+  rows = λ i h. absurd (omega arith);
+  packed = record { keys = λ i. omega (arith, zk i); exits = λ i. omega (arith, zx i) };
+  len-key = a;
+  len-exit = b;
+  len-next = c;
+}
+
+below-set : (l : List ℕ) (j v m : ℕ) → j < length l → v < m → ((i : ℕ) → at l i < m) → (i : ℕ) → at (set l j v) i < m
+below-set l j v m h k old i =
+    ⊎-elim (λ (q : i ≡ j). let e : at (set l j v) i ≡ v = ap (at (set l j v)) q ∙ getD-set-same l j v 0 h in omega arith)
+    (λ (q : i ≡ j → ⊥). let e : at (set l j v) i ≡ at l i = getD-set-other l j i v 0 q in omega (arith, old i))
+    (eq-or-ne i j)
+
+pub row-read : {s : List ℕ} {j : ℕ} {K X N : List ℕ} (k x n : ℕ) → RowsRead s j K X N → j < 1024 → KeyRead s (5 + 11 * j) k
+    → x ≡ num3 s (5 + 11 * j + 7) → x < 16777216 → n ≡ byteAt s (5 + 11 * j + 10)
+    → RowsRead s (j + 1) (set K j k) (set X j x) (set N j n)
+row-read {s} {j} {K} {X} {N} k x n R h Q ex hx en = record {
+  rows = λ i g. ⊎-elim
+      (λ (q : i ≡ j).
+      let a : at (set K j k) i ≡ k = ap (at (set K j k)) q ∙ getD-set-same K j k 0 (omega (arith, R .len-key)) in
+      let b : at (set X j x) i ≡ x = ap (at (set X j x)) q ∙ getD-set-same X j x 0 (omega (arith, R .len-exit)) in
+      let c : at (set N j n) i ≡ n = ap (at (set N j n)) q ∙ getD-set-same N j n 0 (omega (arith, R .len-next)) in
+      let here : rowOf k x n ≡ rowIn s (5 + 11 * j) = λ y. record { place = Q .place y; entry = Q .entry y; ticket = Q .ticket y; exit = ex y; next = en y } in
+      rw (a, b, c) (here ∙ ap (λ (m : ℕ). rowIn s (5 + 11 * m)) (sym q)))
+      (λ (q : i ≡ j → ⊥).
+      rw (getD-set-other K j i k 0 q, getD-set-other X j i x 0 q, getD-set-other N j i n 0 q) (R .rows i (omega arith)))
+      (eq-or-ne i j);
+  packed = record {
+    keys = below-set K j k 72057594037927936 (omega (arith, R .len-key)) (Q .small) (R .packed .keys);
+    exits = below-set X j x 16777216 (omega (arith, R .len-exit)) hx (R .packed .exits);
+  };
+  len-key = length-set K j k ∙ R .len-key;
+  len-exit = length-set X j x ∙ R .len-exit;
+  len-next = length-set N j n ∙ R .len-next;
+}
+
+-- the rows of the slice, packed, and the arrays' lengths
+pub record RowsOf (s : List ℕ) (count : ℕ) (K X N : List ℕ) : Type 0 where
+  pub are : rowsIn K X N count ≡ rowsFrom s 5 count
+  pub packed : Packed K X
+  pub len-key : length K ≡ 1024
+  pub len-exit : length X ≡ 1024
+  pub len-next : length N ≡ 1024
+
+pub all-rows : {s : List ℕ} {count : ℕ} {K X N : List ℕ} → RowsRead s count K X N → RowsOf s count K X N
+all-rows {s} {count} {K} {X} {N} R = record {
+  are = tabulate-same count (λ i. rowOf (at K i) (at X i) (at N i)) (λ i. rowIn s (5 + 11 * i)) (R .rows) ∙ sym (rows-table s 5 count);
+  packed = R .packed;
+  len-key = R .len-key;
+  len-exit = R .len-exit;
+  len-next = R .len-next;
+}

@@ -1,0 +1,108 @@
+-- Rows written as records of 11 bytes, one behind the other. A row put over record j, where the j records before it hold the rows so far,
+-- makes one more row written: its bytes come behind theirs, and what lies after the record is as it was.
+use Prim.Native.Nat.{ℕ, _+_, _-_, _*_, _/_, _%_, _≤_, _<_}
+use mathlib.Core.Path.{_≡_, refl, sym, ap, ap₂, _∙_}
+use mathlib.Core.List.{List, [], _∷_, _++_, append-assoc, append-nil}
+use native.Mathlib.Omega.{arith}
+use lib.ListN.{length, take, drop, length-append, length-drop}
+use lib.Seq.{drop-length, take-at, drop-at, take-all, drop-drop, sets-eq, sets}
+use borrow.Rule.Slice.PartMut.{putMid}
+use Rattle.laws.specs.Lists.{at, tabulate, length-tabulate}
+use Rattle.rules.specs.declared.Row.{Row}
+use Rattle.rules.specs.Answer.{rowBytes, rowsBytes, written}
+use Rattle.flat.specs.Flat.{rowOf}
+use Rattle.wire.specs.Tables.{tabulate-snoc, rowsFor}
+
+pub bytes-long : (l : List Row) → length (rowsBytes l) ≡ 11 * length l
+bytes-long [] = refl
+bytes-long (r ∷ l) = let h = bytes-long l in omega arith
+
+pub bytes-append : (a b : List Row) → rowsBytes (a ++ b) ≡ rowsBytes a ++ rowsBytes b
+bytes-append [] b = refl
+bytes-append (r ∷ a) b = ap (λ (t : List ℕ). rowBytes r ++ t) (bytes-append a b) ∙ sym (append-assoc (rowBytes r) (rowsBytes a) (rowsBytes b))
+
+-- the row is over record j of the bytes, and the rest is as it was
+pub record PutAt (r : Row) (j : ℕ) (was out : List ℕ) : Type 0 where
+  pub over : out ≡ take (11 * j) was ++ (rowBytes r ++ drop (11 * (j + 1)) was)
+  pub long : length out ≡ length was
+
+-- ---- rows written one after the other: none, and one more
+
+pub written-start : (was : List ℕ) → was ≡ written [] was
+written-start was = refl
+
+pub written-next : (l : List Row) (first : List ℕ) {r : Row} {j : ℕ} {was out : List ℕ} → PutAt r j was out → length l ≡ j → was ≡ written l first
+    → out ≡ written (l ++ (r ∷ [])) first
+written-next l first {r} {j} {was} {out} P n e =
+    let f : List ℕ = rowsBytes l in
+    let w : List ℕ = drop (11 * length l) first in
+    let a : length f ≡ 11 * j = bytes-long l ∙ ap (λ (k : ℕ). 11 * k) n in
+    let front : take (11 * j) was ≡ f = rw e (take-at f w (11 * j) a) in
+    let rest : drop (11 * j) was ≡ w = rw e (drop-at f w (11 * j) a) in
+    let two : 11 * j + 11 ≡ 11 * (j + 1) = omega arith in
+    let more : 11 * length l + 11 ≡ 11 * length (l ++ (r ∷ [])) = omega (arith, length-append l (r ∷ [])) in
+    let end : drop (11 * (j + 1)) was ≡ drop (11 * length (l ++ (r ∷ []))) first =
+    ap (λ (k : ℕ). drop k was) (sym two) ∙ sym (drop-drop 11 (11 * j) was) ∙ ap (drop 11) rest ∙ drop-drop 11 (11 * length l) first
+    ∙ ap (λ (k : ℕ). drop k first) more in
+    P .over
+    ∙ rw (front, end) (sym (append-assoc f (rowBytes r) (drop (11 * length (l ++ (r ∷ []))) first)))
+    ∙ ap (λ (t : List ℕ). t ++ drop (11 * length (l ++ (r ∷ []))) first) (sym (bytes-append l (r ∷ [])))
+
+pub written-long : (l : List Row) (was : List ℕ) → 11 * length l ≤ length was → length (written l was) ≡ length was
+written-long l was h =
+    length-append (rowsBytes l) (drop (11 * length l) was) ∙ (let a = bytes-long l in let b = length-drop (11 * length l) was in omega arith)
+
+-- ---- the stores of one row
+
+-- a row's eleven bytes, with its place and next as they are: each is a byte already
+abbrev pub fieldBytes : ℕ → Row → ℕ → List ℕ
+fieldBytes place r next =
+    place
+    ∷ (r .entry / 65536 % 256 ∷ (r .entry / 256 % 256 ∷ (r .entry % 256
+    ∷ (r .ticket / 65536 % 256 ∷ (r .ticket / 256 % 256 ∷ (r .ticket % 256
+    ∷ (r .exit / 65536 % 256 ∷ (r .exit / 256 % 256 ∷ (r .exit % 256
+    ∷ (next ∷ []))))))))))
+
+-- stored over the front of a slice
+pub put-row-is : (r : Row) (s : List ℕ) → r .place < 256 → r .next < 256 → 11 ≤ length s → sets s 0 (fieldBytes (r .place) r (r .next)) ≡ rowBytes r ++ drop 11 s
+put-row-is r s p n h =
+    let a : r .place ≡ r .place % 256 = omega arith in
+    let b : r .next ≡ r .next % 256 = omega arith in
+    ap₂ (λ (x y : ℕ). sets s 0 (fieldBytes x r y)) a b ∙ sets-eq (rowBytes r) s 0 h
+
+-- a row put over the front of the part that begins with record j
+pub put-at-is : (r : Row) (j : ℕ) (was p : List ℕ) → 11 * (j + 1) ≤ length was
+    → p ≡ rowBytes r ++ drop 11 (take (length was - 11 * j) (drop (11 * j) was))
+    → length (putMid (11 * j) (length was - 11 * j) was p) ≡ length was
+    → PutAt r j was (putMid (11 * j) (length was - 11 * j) was p)
+put-at-is r j was p h e n =
+    let w : List ℕ = drop (11 * j) was in
+    let long : length was - 11 * j ≡ length w = sym (length-drop (11 * j) was) in
+    let whole : take (length was - 11 * j) w ≡ w = take-all (length was - 11 * j) w (omega arith) in
+    let gone : drop (length was - 11 * j) w ≡ [] = ap (λ (k : ℕ). drop k w) long ∙ drop-length w in
+    let two : 11 * j + 11 ≡ 11 * (j + 1) = omega arith in
+    let end : drop 11 w ≡ drop (11 * (j + 1)) was = drop-drop 11 (11 * j) was ∙ ap (λ (k : ℕ). drop k was) two in
+    record {
+      over = rw (gone, e, whole, end) (ap (λ (t : List ℕ). take (11 * j) was ++ t) (append-nil (rowBytes r ++ drop (11 * (j + 1)) was)));
+      long = n;
+    }
+
+-- ---- a run of rows copied from the arrays: the first j of it are written
+
+pub record Copied (K X N : List ℕ) (from j : ℕ) (was out : List ℕ) : Type 0 where
+  pub rows : out ≡ written (rowsFor K X N from j) was
+  pub long : length out ≡ length was
+
+pub copied-start : (K X N : List ℕ) (from : ℕ) (was : List ℕ) → Copied K X N from 0 was was
+unfolding tabulate
+copied-start K X N from was = record { rows = written-start was; long = refl }
+
+pub copied-next : {K X N : List ℕ} {from j : ℕ} {was out out′ : List ℕ} {r : Row} → Copied K X N from j was out
+    → r ≡ rowOf (at K (from + j)) (at X (from + j)) (at N (from + j)) → PutAt r j out out′ → Copied K X N from (j + 1) was out′
+copied-next {K} {X} {N} {from} {j} {was} {out} {out′} {r} C e P =
+    let f : ℕ → Row = λ i. rowOf (at K (from + i)) (at X (from + i)) (at N (from + i)) in
+    record {
+      rows = written-next (tabulate j f) was P (length-tabulate j f) (C .rows)
+          ∙ ap (λ (l : List Row). written l was) (ap (λ (x : Row). tabulate j f ++ (x ∷ [])) e ∙ sym (tabulate-snoc j f));
+      long = P .long ∙ C .long;
+    }
