@@ -1,7 +1,7 @@
 -- What a page shows, from the index of the first row above the cursor: the rows from it on are all the rows above the cursor, so their
 -- number is known, and the page is a run of the arrays' rows whose last row's key is the next cursor.
 use Prim.Native.Nat.{ℕ, zero, suc, _+_, _-_, _≤_, _<_, zero-le}
-use mathlib.Core.Path.{_≡_, refl, sym, ap, subst, _∙_}
+use mathlib.Core.Path.{_≡_, refl, sym, ap, _∙_}
 use mathlib.Core.Logic.{⊎-elim}
 use mathlib.Core.List.{List, [], _∷_}
 use native.Mathlib.Omega.{arith}
@@ -39,16 +39,16 @@ drop-first (a ∷ rows) k (suc r) F =
       from = λ i l m. F .from (suc i) (omega arith) (omega arith);
     }))
 
--- the lesser of two numbers
+-- r is the lesser of a and b: at most either, and where it is below b it is a
 pub record Lesser (a b r : ℕ) : Type 0 where
   pub left : r ≤ a
   pub right : r ≤ b
-  pub one : (r < b → r ≡ a)
+  pub is-left : r < b → r ≡ a
 
 -- as many elements as are asked for and there
 pub take-lesser : {A : Type 0} (n : ℕ) (l : List A) {m : ℕ} → Lesser n (length l) m → take n l ≡ take m l
 take-lesser n l {m} f =
-    ⊎-elim (λ (h : m < length l). ap (λ (j : ℕ). take j l) (sym (f .one h))) (λ (h : length l ≤ m). take-all n l (omega (arith, f .left)) ∙ sym (take-all m l h))
+    ⊎-elim (λ (h : m < length l). ap (λ (j : ℕ). take j l) (sym (f .is-left h))) (λ (h : length l ≤ m). take-all n l (omega (arith, f .left)) ∙ sym (take-all m l h))
     (lt-or-ge m (length l))
 
 -- the last of one or more rows made of a function

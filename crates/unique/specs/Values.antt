@@ -2,14 +2,10 @@
 -- number 0, which no refusal has.
 use Prim.Native.Nat.{ℕ, _-_, _<_}
 use mathlib.Core.Path.{_≡_, refl, sym, ap, _∙_}
-use mathlib.Core.Bool.{Bool}
 use mathlib.Core.List.{List, [], _∷_}
 use native.Mathlib.Omega.{arith}
 use lib.ListN.{getD}
 use Rattle.rules.specs.declared.Cursor.{Cursor}
-use Rattle.rules.specs.declared.Trip.{Trip}
-use Rattle.rules.specs.declared.Issued.{Issued}
-use Rattle.rules.specs.declared.Shown.{Shown}
 use Rattle.rules.specs.declared.Refusal.{Refusal}
 use Rattle.rules.specs.declared.Refusal.the-variants.{BadMap, BadBook, OffMap, OffDay, NoPlan, ShortList, FullBook, NoTickets, UnknownTicket, BadSize, BadCursor, BadFrame}
 use Rattle.rules.specs.declared.Planned.{Planned}
@@ -20,7 +16,7 @@ use Rattle.rules.specs.declared.Cancelled.{Cancelled}
 use Rattle.rules.specs.declared.Cancelled.the-variants.{Done as Removes, Refused as NotCancelled}
 use Rattle.rules.specs.declared.Paged.{Paged}
 use Rattle.rules.specs.declared.Paged.the-variants.{Done as Shows, Refused as NotShown}
-use Rattle.rules.specs.Rows.{Key, cursorKey}
+use Rattle.rules.specs.Rows.{cursorKey}
 use Rattle.rules.specs.Answer.{number, plannedNumber, plannedArrival, plannedCount, bookedNumber, bookedTicket, bookedArrival, bookedCount, cancelledNumber, cancelledCount, pagedNumber, pagedCount, pagedMore, pagedCursor}
 
 -- the refusals in the table's order

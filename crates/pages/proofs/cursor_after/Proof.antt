@@ -1,5 +1,5 @@
 -- The cursor after some rows is the last one's key: of no rows it is the cursor given.
-use mathlib.Core.Path.{_≡_, refl, sym, _∙_}
+use mathlib.Core.Path.{_∙_}
 use native.Mathlib.Omega.{arith}
 use borrow.Author.Needs.{needs}
 use Rattle.rules.specs.Rows.{cursorKey}

@@ -1,6 +1,6 @@
 -- The first row above the cursor is found: the loop keeps a stretch with no row above the cursor before it and only such after it, and
 -- the row in its middle tells which half to keep. The stretch gets shorter.
-use Prim.Native.Nat.{ℕ, _+_, _-_, _/_}
+use Prim.Native.Nat.{_+_, _-_, _/_}
 use mathlib.Core.Path.{_≡_, sym, ap, _∙_}
 use native.Mathlib.Omega.{arith}
 use borrow.Author.Needs.{needs}
@@ -19,7 +19,7 @@ abbrev μ-loop : tie.MeasureT-loop
 -- what the middle row's test answers
 answer : (k : tie.After-before2 Inv-loop μ-loop)
     → k .before2 .result ≡ above (k .before .before .before .before .args .key .now) (cursorKey (k .before .before .before .before .args .c))
-      (k .before .before .before .loop .lo + (k .before .before .before .loop .hi - k .before .before .before .loop .lo) / 2)
+    (k .before .before .before .loop .lo + (k .before .before .before .loop .hi - k .before .before .before .loop .lo) / 2)
 answer k =
     k .before2 .ensures ∙ ap (λ (r : Row). lessb (cursorKey (k .before .before .before .before .args .c)) (rowKey r)) (k .before .row-at .ensures)
 
