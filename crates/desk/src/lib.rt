@@ -1,5 +1,7 @@
 // The calls' answers over lent arrays: what is said once map and book are known as numbers.
-use rules::{Planned, Refusal, Trip};
+use rules::Planned;
+use rules::Refusal;
+use rules::Trip;
 ghost use mathlib.Core.Path.{_≡_};
 ghost use Prim.Native.Nat.{ℕ, _+_, _*_, _≤_, _<_};
 ghost use lib.ListN.{length};
@@ -52,7 +54,30 @@ fn plan_sound(
     }
     let mut label = [86401u32; 1280];
     let mut path = [0u16; 1280];
-    let c = planner::route(n, k, windows, cap, dur, from, to, head, chain, place, start, end, first, key, exit, next, count, a, z, s, &mut label, &mut path);
+    let c = planner::route(
+        n,
+        k,
+        windows,
+        cap,
+        dur,
+        from,
+        to,
+        head,
+        chain,
+        place,
+        start,
+        end,
+        first,
+        key,
+        exit,
+        next,
+        count,
+        a,
+        z,
+        s,
+        &mut label,
+        &mut path,
+    );
     if c == 0 {
         return Planned::Refused(Refusal::NoPlan);
     }
@@ -94,12 +119,52 @@ pub fn plan_flat(
     let mut start = [0u32; 1280];
     let mut end = [0u32; 1280];
     let mut first = [0u16; 257];
-    let m = vet::vet(n, k, cap, dur, from, to, &mut head, &mut chain, count, next_ticket, key, exit, next, &mut start, &mut end, &mut place, &mut first);
+    let m = vet::vet(
+        n,
+        k,
+        cap,
+        dur,
+        from,
+        to,
+        &mut head,
+        &mut chain,
+        count,
+        next_ticket,
+        key,
+        exit,
+        next,
+        &mut start,
+        &mut end,
+        &mut place,
+        &mut first,
+    );
     if m >= 1282 {
         return Planned::Refused(Refusal::BadMap);
     }
     if m >= 1281 {
         return Planned::Refused(Refusal::BadBook);
     }
-    plan_sound(n, k, m, cap, dur, from, to, &head, &chain, &place, &start, &end, &first, key, exit, next, count, origin, dest, s, out)
+    plan_sound(
+        n,
+        k,
+        m,
+        cap,
+        dur,
+        from,
+        to,
+        &head,
+        &chain,
+        &place,
+        &start,
+        &end,
+        &first,
+        key,
+        exit,
+        next,
+        count,
+        origin,
+        dest,
+        s,
+        out,
+    )
 }

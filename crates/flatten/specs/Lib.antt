@@ -1,3 +1,4 @@
 pub mod Lists
 pub mod Maps
 pub mod Books
+pub mod Read

@@ -10,6 +10,7 @@ ghost use Rattle.laws.specs.Lists.{at};
 ghost use Rattle.rules.specs.Rows.{noRow};
 ghost use Rattle.flat.specs.Flat.{keyOf};
 ghost use Rattle.flatten.specs.Maps.{PlacesFlat, LinksFlat};
+ghost use Rattle.flatten.specs.Read.{BookRead};
 ghost use Rattle.flatten.specs.Books.{InRange, SpareZero, RowsFlat, BookFlat};
 
 // capacity and duration of each place
@@ -149,4 +150,25 @@ pub fn flat_book(
         return false;
     }
     spare_zero(b)
+}
+
+// The book's rows in the arrays: their count, and 1,025, which no book has, where the book is not one.
+pub fn read_book(
+    b: Book,
+    key: &mut [u64; 1024],
+    exit: &mut [u32; 1024],
+    next: &mut [u8; 1024],
+) -> usize
+    requires { ⌜ length (now key) ≡ 1024 ⌝ }
+    requires { ⌜ length (now exit) ≡ 1024 ⌝ }
+    requires { ⌜ length (now next) ≡ 1024 ⌝ }
+    requires { ⌜ ((i : ℕ) → at (now key) i ≡ 0) ⌝ }
+    requires { ⌜ ((i : ℕ) → at (now exit) i ≡ 0) ⌝ }
+    requires { ⌜ ((i : ℕ) → at (now next) i ≡ 0) ⌝ }
+    ensures { λ r. ⌜ BookRead b (now (key .exit)) (now (exit .exit)) (now (next .exit)) r ⌝ }
+{
+    if flat_book(b, key, exit, next) {
+        return b.count;
+    }
+    1025
 }

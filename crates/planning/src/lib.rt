@@ -1,18 +1,8 @@
 // The planning call on a map and a book by value.
-use rules::{Book, Map, Planned};
-ghost use mathlib.Core.Path.{_≡_};
-ghost use mathlib.Core.Bool.{true, false};
+use rules::Book;
+use rules::Map;
+use rules::Planned;
 ghost use Rattle.rules.specs.Answer.{PlanIs};
-
-// The count of a book that could be read, and one too many for a book that could not: no book has 1,025 rows.
-fn counted(read: bool, count: usize) -> usize
-    ensures { λ r. ⌜ (read ≡ true → r ≡ count) × (read ≡ false → r ≡ 1025) ⌝ }
-{
-    if read {
-        return count;
-    }
-    1025
-}
 
 // The earliest permitted plan from start to destination at a second beside the book: its rows are written to the caller's list.
 pub fn plan(m: Map, b: Book, start: u32, destination: u32, second: u32, out: &mut [u8]) -> Planned
@@ -27,7 +17,22 @@ pub fn plan(m: Map, b: Book, start: u32, destination: u32, second: u32, out: &mu
     let mut key = [0u64; 1024];
     let mut exit = [0u32; 1024];
     let mut next = [0u8; 1024];
-    let read = flatten::flat_book(b, &mut key, &mut exit, &mut next);
-    let count = counted(read, b.count);
-    desk::plan_flat(m.place_count, m.link_count, &cap, &dur, &from, &to, count, b.next_ticket, &key, &exit, &next, start, destination, second, out)
+    let count = flatten::read_book(b, &mut key, &mut exit, &mut next);
+    desk::plan_flat(
+        m.place_count,
+        m.link_count,
+        &cap,
+        &dur,
+        &from,
+        &to,
+        count,
+        b.next_ticket,
+        &key,
+        &exit,
+        &next,
+        start,
+        destination,
+        second,
+        out,
+    )
 }

@@ -97,7 +97,7 @@ returns-6 c =
     let F = route-fits (lanes-ground (P .0)) R in
     let h : 0 < c .before .before .before .before .before .before .before .before .before .before .before .route .result = omega (arith, c .before .before .before .before .before .before .before .before .before .before .if4 .left) in
     plan-done (omega (arith, c .before .before .before .before .before .before .before .before .before .before .before .before .before .before .before .before .if1 .left), omega (arith, c .before .before .before .before .before .before .before .before .before .before .before .before .before .before .before .if2 .left)) (c .before .before .before .before .before .before .before .before .before .before .before .before .before .before .if3 .left) (yard-rules (P .0 .rules)) (P .1) (R .chosen h) (omega (arith, route-long F, c .before .before .before .before .before .before .before .before .before .if5 .left))
-      (route-arrives 0 F h ∙ sym (ap (λ (x : Row). x .exit) (c .step-at .ensures))) (route-long F) (c .before .before .before .before .before .write-plan .ensures)
+    (route-arrives 0 F h ∙ sym (ap (λ (x : Row). x .exit) (c .step-at .ensures))) (route-long F) (c .before .before .before .before .before .write-plan .ensures)
 
 pub plan-sound-spec : {M : Type 1} → statement M
 plan-sound-spec =
