@@ -8,3 +8,4 @@ pub mod Window
 pub mod Chosen
 pub mod Answer
 pub mod Portal
+pub mod Frames

@@ -170,3 +170,10 @@ pub enum Paged {
     Done(Shown),
     Refused(Refusal),
 }
+
+// What `lanebook` keeps between frames.
+pub struct State {
+    pub map: Map,
+    pub book: Book,
+    pub closed: bool,
+}
