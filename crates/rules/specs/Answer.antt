@@ -85,30 +85,35 @@ plannedCount (Done t) = t .count
 plannedCount (Refused r) = 0
 
 -- the numbers returned, and what the caller's list then holds
-pub record Planning (n a c : ℕ) (list out : List ℕ) (r : Planned) : Type 0 where
+pub record Planning {A : Type 0} (n a c : ℕ) (list out : List A) (r : Planned) : Type 0 where
   pub code : plannedNumber r ≡ n
   pub arrives : plannedArrival r ≡ a
   pub counts : plannedCount r ≡ c
   pub holds : out ≡ list
 
 -- "Each refusal returns its number and zeros, and lent memory stays as lent."
-abbrev pub PlanRefused : ℕ → List ℕ → List ℕ → Planned → Type 0
+abbrev pub PlanRefused : {A : Type 0} → ℕ → List A → List A → Planned → Type 0
 PlanRefused n was out r = Planning n 0 0 was out r
 
--- "Plan: arrival, step count, and rows in travel order with ticket 0."
-abbrev pub PlanDone : List Stay → List ℕ → List ℕ → Planned → Type 0
-PlanDone plan was out r = Planning 0 (arrival plan) (length plan) (written (runRows 0 plan) was) out r
-
--- "Order: plan 1, 2, 3, 4, 5, 6": first what is said where map and book are sound
-module _ (Y : Yard) (rows : List Row) (start dest s : ℕ) (was out : List ℕ) (r : Planned) where
-  abbrev pub PlanSound : Type 0
-  PlanSound =
+-- "Order: plan 1, 2, 3, 4, 5, 6": first what is said where map and book are sound, of a list with room for some records that holds `after` rows
+-- when they are written to it
+module _ {A : Type 0} (room : ℕ) (after : List Row → List A) (Y : Yard) (rows : List Row) (start dest s : ℕ) (was out : List A) (r : Planned) where
+  abbrev pub PlanAnswers : Type 0
+  PlanAnswers =
       Unless ((start < Y .places) × (dest < Y .places)) (PlanRefused 3 was out r)
       (Unless (s ≤ day) (PlanRefused 4 was out r)
       (Unless ((plan : List Stay) × Permitted Y rows start dest s plan) (PlanRefused 5 was out r)
       ((plan : List Stay) × Chosen Y rows start dest s plan
-      × Unless (length plan ≤ records was) (PlanRefused 6 was out r)
-      (PlanDone plan was out r))))
+      × Unless (length plan ≤ room) (PlanRefused 6 was out r)
+      -- "Plan: arrival, step count, and rows in travel order with ticket 0."
+      (Planning 0 (arrival plan) (length plan) (after (runRows 0 plan)) out r))))
+
+-- a list of packed rows
+abbrev pub PlanDone : List Stay → List ℕ → List ℕ → Planned → Type 0
+PlanDone plan was out r = Planning 0 (arrival plan) (length plan) (written (runRows 0 plan) was) out r
+
+abbrev pub PlanSound : Yard → List Row → ℕ → ℕ → ℕ → List ℕ → List ℕ → Planned → Type 0
+PlanSound Y rows start dest s was out r = PlanAnswers (records was) (λ l. written l was) Y rows start dest s was out r
 
 module _ (map-ok book-ok : Type 0) (Y : Yard) (rows : List Row) (start dest s : ℕ) (was out : List ℕ) (r : Planned) where
   abbrev pub PlanSays : Type 0
@@ -220,20 +225,15 @@ pagedCursor (Shows s) = cursorKey (s .cursor)
 pagedCursor (NotShown r) = firstKey
 
 -- the numbers returned, and what the caller's list then holds
-pub record PagingIs (n c : ℕ) (more : Bool) (k : Key) (list out : List ℕ) (r : Paged) : Type 0 where
+pub record PagingIs {A : Type 0} (n c : ℕ) (more : Bool) (k : Key) (list out : List A) (r : Paged) : Type 0 where
   pub code : pagedNumber r ≡ n
   pub counts : pagedCount r ≡ c
   pub says : pagedMore r ≡ more
   pub hands : pagedCursor r ≡ k
   pub holds : out ≡ list
 
-abbrev pub PageRefused : ℕ → List ℕ → List ℕ → Paged → Type 0
+abbrev pub PageRefused : {A : Type 0} → ℕ → List A → List A → Paged → Type 0
 PageRefused n was out r = PagingIs n 0 false firstKey was out r
-
--- "out come the rows with keys above the cursor, .. with their count and whether the book has more after them"
-abbrev pub PageDone : List Row → ℕ → Key → List ℕ → List ℕ → Paged → Type 0
-PageDone rows size k was out r =
-    PagingIs 0 (length (pageRows size k rows)) (pageMore size k rows) (lastKey k (pageRows size k rows)) (written (pageRows size k rows) was) out r
 
 -- "11: cursor place not on the map, entry above 86,400 or ticket above 999,999"
 pub record CursorFits (Y : Yard) (k : Key) : Type 0 where
@@ -241,14 +241,23 @@ pub record CursorFits (Y : Yard) (k : Key) : Type 0 where
   pub entry : k .entry ≤ day
   pub ticket : k .ticket < ticketLimit
 
--- "page 1, 2, 10, 11, 6": first what is said where map and book are sound
-module _ (Y : Yard) (rows : List Row) (size : ℕ) (k : Key) (was out : List ℕ) (r : Paged) where
-  abbrev pub PageSound : Type 0
-  PageSound =
+-- "page 1, 2, 10, 11, 6": first what is said where map and book are sound, of a list as for a plan
+module _ {A : Type 0} (room : ℕ) (after : List Row → List A) (Y : Yard) (rows : List Row) (size : ℕ) (k : Key) (was out : List A) (r : Paged) where
+  abbrev pub PageAnswers : Type 0
+  PageAnswers =
       Unless ((1 ≤ size) × (size ≤ pageLimit)) (PageRefused 10 was out r)
       (Unless (CursorFits Y k) (PageRefused 11 was out r)
-      (Unless (size ≤ records was) (PageRefused 6 was out r)
-      (PageDone rows size k was out r)))
+      (Unless (size ≤ room) (PageRefused 6 was out r)
+      -- "out come the rows with keys above the cursor, .. with their count and whether the book has more after them"
+      (PagingIs 0 (length (pageRows size k rows)) (pageMore size k rows) (lastKey k (pageRows size k rows)) (after (pageRows size k rows)) out r)))
+
+-- a list of packed rows
+abbrev pub PageDone : List Row → ℕ → Key → List ℕ → List ℕ → Paged → Type 0
+PageDone rows size k was out r =
+    PagingIs 0 (length (pageRows size k rows)) (pageMore size k rows) (lastKey k (pageRows size k rows)) (written (pageRows size k rows) was) out r
+
+abbrev pub PageSound : Yard → List Row → ℕ → Key → List ℕ → List ℕ → Paged → Type 0
+PageSound Y rows size k was out r = PageAnswers (records was) (λ l. written l was) Y rows size k was out r
 
 module _ (map-ok book-ok : Type 0) (Y : Yard) (rows : List Row) (size : ℕ) (k : Key) (was out : List ℕ) (r : Paged) where
   abbrev pub PageSays : Type 0
@@ -256,3 +265,21 @@ module _ (map-ok book-ok : Type 0) (Y : Yard) (rows : List Row) (size : ℕ) (k 
 
 abbrev pub PageIs : Map → Book → ℕ → Key → List ℕ → List ℕ → Paged → Type 0
 PageIs m b size k was out r = PageSays (GoodMap m) (GoodBook (mapYard m) b) (mapYard m) (rowsOf b) size k was out r
+
+-- ---- the caller's list as row records
+
+-- "records past the count keep their values"
+abbrev pub over : List Row → List Row → List Row
+over was rows = rows ++ drop (length rows) was
+
+abbrev pub PlanRecords : Map → Book → ℕ → ℕ → ℕ → List Row → List Row → Planned → Type 0
+PlanRecords m b start dest s was out r =
+    Unless (GoodMap m) (PlanRefused 1 was out r)
+    (Unless (GoodBook (mapYard m) b) (PlanRefused 2 was out r)
+    (PlanAnswers (length was) (over was) (mapYard m) (rowsOf b) start dest s was out r))
+
+abbrev pub PageRecords : Map → Book → ℕ → Key → List Row → List Row → Paged → Type 0
+PageRecords m b size k was out r =
+    Unless (GoodMap m) (PageRefused 1 was out r)
+    (Unless (GoodBook (mapYard m) b) (PageRefused 2 was out r)
+    (PageAnswers (length was) (over was) (mapYard m) (rowsOf b) size k was out r))
