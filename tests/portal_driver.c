@@ -29,7 +29,7 @@
 
 #include "lanebook.h"
 
-#define GUARD 64u
+#define GUARDS ((size_t)1024)
 #define MOST_WORDS 8
 /* Far more than any answer needs; longer answer slices are cut to it. */
 #define LONGEST_ANSWER ((uint64_t)1 << 20)
@@ -111,67 +111,76 @@ static uint32_t narrow(uint64_t number)
 
 /* ---- slices between a page that cannot be touched and guard bytes */
 
-struct lent {
-    uint8_t *whole; /* the mapping, with a forbidden page at either end */
-    size_t whole_len;
-    uint8_t *open; /* what may be touched: the slice and its guard bytes */
-    size_t open_len;
-    uint8_t *at; /* the slice */
+/* Memory with a forbidden page at either end. */
+struct field {
+    uint8_t *at;
     size_t len;
+};
+
+struct lent {
+    uint8_t *at;
+    size_t len;
+    uint8_t *guards; /* right before the slice, or right behind it */
     uint8_t guard;
 };
 
 enum side { LAST_BYTE_AT_FENCE, FIRST_BYTE_AT_FENCE };
 
-static struct lent lend(size_t len, enum side side, uint8_t guard)
+static void make_room(struct field *field, size_t len)
 {
     const size_t page = (size_t)sysconf(_SC_PAGESIZE);
+    uint8_t *whole;
+    if (len <= field->len) {
+        return;
+    }
+    if (field->len > 0 && munmap(field->at - page, field->len + 2 * page) != 0) {
+        fail("munmap");
+    }
+    field->len = (len + page - 1) / page * page;
+    whole = mmap(NULL, field->len + 2 * page, PROT_NONE, MAP_PRIVATE | MAP_ANONYMOUS, -1, 0);
+    if (whole == MAP_FAILED || mprotect(whole + page, field->len, PROT_READ | PROT_WRITE) != 0) {
+        fail("no memory for a slice");
+    }
+    field->at = whole + page;
+}
+
+/* A slice of this length at one end of the field, beside guard bytes. */
+static struct lent lend(struct field *field, size_t len, enum side side, uint8_t guard)
+{
     struct lent lent;
-    void *whole;
-    lent.open_len = (len + GUARD + page - 1) / page * page;
-    lent.whole_len = lent.open_len + 2 * page;
-    whole = mmap(NULL, lent.whole_len, PROT_NONE, MAP_PRIVATE | MAP_ANONYMOUS, -1, 0);
-    if (whole == MAP_FAILED) {
-        fail("no memory for a slice");
-    }
-    lent.whole = whole;
-    lent.open = lent.whole + page;
-    if (mprotect(lent.open, lent.open_len, PROT_READ | PROT_WRITE) != 0) {
-        fail("no memory for a slice");
-    }
+    make_room(field, len + GUARDS);
     lent.len = len;
-    lent.at = side == LAST_BYTE_AT_FENCE ? lent.open + (lent.open_len - len) : lent.open;
+    lent.at = side == LAST_BYTE_AT_FENCE ? field->at + (field->len - len) : field->at;
+    lent.guards = side == LAST_BYTE_AT_FENCE ? lent.at - GUARDS : lent.at + len;
     lent.guard = guard;
-    memset(lent.open, guard, lent.open_len);
+    memset(lent.guards, guard, GUARDS);
     return lent;
+}
+
+/* The index of the first byte that is not this value; the length where all are. */
+static size_t first_other(const uint8_t *bytes, size_t len, uint8_t value)
+{
+    size_t i = 0;
+    if (len > 0 && bytes[0] == value && memcmp(bytes, bytes + 1, len - 1) == 0) {
+        return len;
+    }
+    while (i < len && bytes[i] == value) {
+        i++;
+    }
+    return i;
 }
 
 static void check_guards(const struct lent *lent, const char *name)
 {
-    const uint8_t *byte;
-    for (byte = lent->open; byte < lent->open + lent->open_len; byte++) {
-        if (byte == lent->at) {
-            byte += lent->len;
-            if (byte == lent->open + lent->open_len) {
-                break;
-            }
-        }
-        if (*byte != lent->guard) {
-            fail("a byte outside the %s changed, %ld from its first", name, (long)(byte - lent->at));
-        }
+    const size_t other = first_other(lent->guards, GUARDS, lent->guard);
+    if (other < GUARDS) {
+        fail("a byte outside the %s changed, %ld from its first", name, (long)(lent->guards + other - lent->at));
     }
 }
 
-static void give_back(struct lent *lent)
+static struct lent lend_copy(struct field *field, const struct bytes *bytes, enum side side, uint8_t guard)
 {
-    if (munmap(lent->whole, lent->whole_len) != 0) {
-        fail("munmap");
-    }
-}
-
-static struct lent lend_copy(const struct bytes *bytes, enum side side, uint8_t guard)
-{
-    struct lent lent = lend(bytes->len, side, guard);
+    struct lent lent = lend(field, bytes->len, side, guard);
     memcpy(lent.at, bytes->at, bytes->len);
     return lent;
 }
@@ -199,13 +208,14 @@ struct call {
 /* Makes the call on slices at this side of their fences; the rows go to `rows`. */
 static uint64_t answer_at(const struct call *call, enum side side, uint8_t fill, uint8_t *rows)
 {
-    struct lent map = lend_copy(&call->map, side, 0x3C);
-    struct lent book = lend_copy(&call->book, side, 0xC3);
-    struct lent answer = lend(call->answer_len, side, (uint8_t)~fill);
+    static struct field map_field, book_field, answer_field;
+    const struct lent map = lend_copy(&map_field, &call->map, side, 0x3C);
+    const struct lent book = lend_copy(&book_field, &call->book, side, 0xC3);
+    const struct lent answer = lend(&answer_field, call->answer_len, side, (uint8_t)~fill);
     const uint32_t *asked = call->asked;
     uint64_t result;
     size_t written;
-    size_t i;
+    size_t kept;
 
     memset(answer.at, fill, answer.len);
     if (call->kind == PLAN) {
@@ -224,16 +234,11 @@ static uint64_t answer_at(const struct call *call, enum side side, uint8_t fill,
     if (written > answer.len) {
         fail("%" PRIu32 " rows in %lu bytes", lanebook_count(result), (unsigned long)answer.len);
     }
-    for (i = written; i < answer.len; i++) {
-        if (answer.at[i] != fill) {
-            fail("byte %lu of the answer changed, past the %" PRIu32 " rows written", (unsigned long)i, lanebook_count(result));
-        }
+    kept = written + first_other(answer.at + written, answer.len - written, fill);
+    if (kept < answer.len) {
+        fail("byte %lu of the answer changed, past the %" PRIu32 " rows written", (unsigned long)kept, lanebook_count(result));
     }
     memcpy(rows, answer.at, written);
-
-    give_back(&map);
-    give_back(&book);
-    give_back(&answer);
     return result;
 }
 
