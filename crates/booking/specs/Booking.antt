@@ -1,11 +1,10 @@
--- What the booking call answers at each of its ends, and why the plan's rows can be put in: they bear the next ticket, which no booked row has, and
--- their entries rise, so that their keys are new and all different.
+-- What the booking call answers at each of its ends.
 use Prim.Native.Nat.{ℕ, _+_, _≤_, _<_}
-use mathlib.Core.Path.{_≡_, refl, sym, ap, subst, _∙_}
+use mathlib.Core.Path.{_≡_, refl, sym, subst}
 use mathlib.Core.Logic.{inl, inr}
-use mathlib.Core.List.{List, List·Memᴰ}
+use mathlib.Core.List.{List}
 use native.Mathlib.Omega.{arith}
-use lib.ListN.{length, take}
+use lib.ListN.{length}
 use Rattle.rules.specs.declared.Row.{Row}
 use Rattle.rules.specs.declared.Map.{Map}
 use Rattle.rules.specs.declared.Book.{Book}
@@ -14,17 +13,11 @@ use Rattle.rules.specs.declared.Booked.the-variants.{Done, Refused}
 use Rattle.rules.specs.declared.Refusal.the-variants.{BadMap, BadBook, OffMap, OffDay, NoPlan, FullBook, NoTickets}
 use Rattle.rules.specs.Limits.{day, rowLimit, ticketLimit}
 use Rattle.rules.specs.Map.{Yard, GoodMap, mapYard}
-use Rattle.rules.specs.Rows.{Key, insertAll}
-use Rattle.rules.specs.Plan.{Stay, Plan, Permitted, arrival, runRows}
-use Rattle.rules.specs.Book.{WellFormed, GoodBook, rowsOf, bookOf}
+use Rattle.rules.specs.Rows.{insertAll}
+use Rattle.rules.specs.Plan.{Stay, Permitted, arrival, runRows}
+use Rattle.rules.specs.Book.{GoodBook, rowsOf, bookOf}
 use Rattle.rules.specs.Chosen.{Chosen}
 use Rattle.rules.specs.Answer.{Unless, BookIs, BookRefused, BookDone}
-use Rattle.lanes.specs.Yards.{YardRules}
-use Rattle.lanes.specs.Chosen.{chosen-best}
-use Rattle.keeping.specs.Changes.{AllNew}
-use Rattle.keeping.specs.Runs.{run-length, run-ticket, run-apart}
-use Rattle.keeping.specs.Keeping.{row-ranges}
-use Rattle.ledger.specs.Inserting.{Inserting, inserted-start}
 
 -- "book 1, 2, 3, 4, 8, 5, 7": what is said where map and book are sound
 module _ (Y : Yard) (rows : List Row) (b : Book) (start dest s : ℕ) (r : Booking) where
@@ -37,22 +30,6 @@ module _ (Y : Yard) (rows : List Row) (b : Book) (start dest s : ℕ) (r : Booki
       ((plan : List Stay) × Chosen Y rows start dest s plan
       × Unless (b .count + length plan ≤ rowLimit) (BookRefused 7 b r)
       (BookDone plan b r)))))
-
--- ---- the plan's rows can be put in
-
-module _ {Y : Yard} (rules : YardRules Y) {rows : List Row} {t : ℕ} (W : WellFormed Y rows t) {plan : List Stay} (P : Plan Y plan) where
-  -- no booked row has the next ticket
-  other : (r : Row) → List·Memᴰ r rows → r .ticket ≡ t → ⊥
-  other r m e = omega (arith, row-ranges W r m .ticket-to)
-
-  new-keys : AllNew (runRows t plan) rows
-  new-keys = record {
-    fresh = λ x m y d e. other y d (ap (λ (k : Key). k .ticket) e ∙ run-ticket t plan x m);
-    apart = run-apart t rules plan P;
-  }
-
-  pub can-enter : {b : Book} → b ≡ bookOf rows t → length rows + length plan ≤ 1024 → Inserting (runRows t plan) rows t 0 b
-  can-enter e h = inserted-start e (W .rising) new-keys (omega (arith, run-length t plan))
 
 -- ---- the answers
 
@@ -77,11 +54,12 @@ module _ {Y : Yard} {b : Book} {start dest s : ℕ} where
           book-full h =
               inr (on, inr (in-day, inr (before, inr ((plan, P), (plan, C, inl (λ k. omega arith, record { code = refl; issues = refl; arrives = refl; counts = refl; holds = refl }))))))
 
-          pub book-done : {a c : ℕ} {after : Book} → b .count + length plan ≤ 1024 → arrival plan ≡ a → length plan ≡ c
-              → after ≡ bookOf (insertAll (runRows (b .«next_ticket») plan) (rowsOf b)) (b .«next_ticket» + 1)
+          pub book-done : {a c : ℕ} {entered after : Book} → b .count + length plan ≤ 1024 → arrival plan ≡ a → length plan ≡ c
+              → entered ≡ bookOf (insertAll (runRows (b .«next_ticket») plan) (rowsOf b)) (b .«next_ticket»)
+              → ((l : List Row) (t : ℕ) → entered ≡ bookOf l t → after ≡ bookOf l (t + 1))
               → BookSound Y (rowsOf b) b start dest s (record { book = after; answer = Done (record { ticket = b .«next_ticket»; arrival = a; count = c }) })
-          book-done h ea ec e =
-              inr (on, inr (in-day, inr (before, inr ((plan, P), (plan, C, inr (h, record { code = refl; issues = refl; arrives = sym ea; counts = sym ec; holds = e }))))))
+          book-done h ea ec e up =
+              inr (on, inr (in-day, inr (before, inr ((plan, P), (plan, C, inr (h, record { code = refl; issues = refl; arrives = sym ea; counts = sym ec; holds = up (insertAll (runRows (b .«next_ticket») plan) (rowsOf b)) (b .«next_ticket») e }))))))
 
 -- ---- with the map and the book tested first
 
