@@ -1,14 +1,13 @@
 -- Map and book written to arrays and vetted there: what is found of the arrays holds of the map and the book, because a book that could not be
 -- read is given 1,025 rows, which no well-formed book has, and every other one's rows are those in the arrays.
 use Prim.Native.Nat.{ℕ, _≤_, _<_}
-use mathlib.Core.Path.{_≡_, sym, ap, subst, _∙_}
+use mathlib.Core.Path.{_≡_, sym, subst}
 use mathlib.Core.Logic.{⊎-elim}
 use mathlib.Core.Bool.{Bool, true, false}
 use mathlib.Core.List.{List}
 use native.Mathlib.Omega.{arith}
 use lib.ListN.{length}
 use Rattle.laws.specs.Tests.{true-or-false}
-use Rattle.rules.specs.declared.Row.{Row}
 use Rattle.rules.specs.declared.Map.{Map}
 use Rattle.rules.specs.declared.Book.{Book}
 use Rattle.rules.specs.Map.{Yard, GoodMap, mapYard}

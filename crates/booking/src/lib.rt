@@ -1,15 +1,22 @@
 // The two calls that change the book, on a map and a book by value.
-use rules::{Book, Booked, Booking, Cancelled, Cancelling, Issued, Map, Refusal};
+use rules::Book;
+use rules::Booked;
+use rules::Booking;
+use rules::Cancelled;
+use rules::Cancelling;
+use rules::Issued;
+use rules::Map;
+use rules::Refusal;
 ghost use mathlib.Core.Path.{_≡_};
 ghost use mathlib.Core.Bool.{true, false};
-ghost use Prim.Native.Nat.{ℕ, _+_, _≤_, _<_};
+ghost use Prim.Native.Nat.{ℕ};
 ghost use lib.ListN.{length, take};
 ghost use Rattle.laws.specs.Lists.{at};
 ghost use Rattle.rules.specs.Rows.{insertAll};
 ghost use Rattle.rules.specs.Plan.{runRows};
 ghost use Rattle.rules.specs.Book.{rowsOf, bookOf};
 ghost use Rattle.rules.specs.Answer.{BookIs, CancelIs};
-ghost use Rattle.flat.specs.Flat.{rowsIn, yardIn};
+ghost use Rattle.flat.specs.Flat.{yardIn};
 ghost use Rattle.planner.specs.Choice.{planOf};
 ghost use Rattle.planner.specs.Route.{PathFits};
 ghost use Rattle.ledger.specs.Inserting.{Inserting};

@@ -1,33 +1,19 @@
 -- `booking::book_sound` meets its contract: each refusal's test is its condition, and where none holds the rows of the chosen plan are put in under the
 -- next ticket, which goes up.
-use Prim.Native.Nat.{ℕ, suc, _+_, _-_, _*_, _/_, _%_, _≤_, _<_, min, max}
-use mathlib.Core.Path.{_≡_, refl, sym, ap, subst, _∙_}
-use mathlib.Core.Logic.{_⊎_, inl, inr, ⊎-elim}
-use mathlib.Core.Bool.{Bool, true, false, not}
-use mathlib.Core.List.{List}
+use Prim.Native.Nat.{_<_}
+use mathlib.Core.Path.{_≡_, refl, sym, ap, _∙_}
 use native.Mathlib.Omega.{arith}
-use lib.ListN.{length, getD, set, take, drop}
+use lib.ListN.{length, getD-replicate}
 use borrow.Author.Needs.{needs}
-use lib.ListN.{getD-replicate}
 use Rattle.rules.specs.declared.Row.{Row}
 use Rattle.rules.specs.declared.Book.{Book}
+use Rattle.flat.specs.Flat.{placesIn}
 use Rattle.flat.specs.Laws.{places-long}
 use Rattle.desk.specs.Planning.{route-long, route-arrives}
 use Rattle.booking.specs.Found.{room-there, found-fits, none-found, found-chosen, found-permitted, found-enters}
 use Rattle.booking.specs.Booking.{book-off-map, book-off-day, book-no-tickets, book-no-plan, book-full, book-done}
-use Rattle.flat.specs.Flat.{placesIn}
-use Rattle.ledger.proofs.issued.Reads as issued-reads
-use Rattle.planner.proofs.route.Reads as route-reads
-use Rattle.planner.proofs.step_at.Reads as step-at-reads
 use Rattle.booking.proofs.book_sound.Statement.{statement}
 use Rattle.booking.proofs.book_sound.Tie as tie
-use Rattle.booking.proofs.book_sound.Reads as reads
-use Rattle.booking.proofs.book_sound.Lts as lts
-use Rattle.booking.proofs.enter_rows.Reads as enter-rows-reads
-
--- next ticket, which goes up.
-
--- next ticket, which goes up.
 
 places : (s : tie.Start) → length (placesIn (s .args .cap .now) (s .args .dur .now) (s .args .n)) ≡ s .args .n
 places s = places-long (s .args .cap .now) (s .args .dur .now) (s .args .n)
@@ -36,62 +22,60 @@ on-map : (s : tie.Start) → s .args .origin < s .args .n → s .args .dest < s 
     → (s .args .origin < length (placesIn (s .args .cap .now) (s .args .dur .now) (s .args .n))) × (s .args .dest < length (placesIn (s .args .cap .now) (s .args .dur .now) (s .args .n)))
 on-map s h k = let l = places s in (omega arith, omega arith)
 
--- src/lib.rt:133:9
 returns : tie.Need-returns
 returns c =
     let l = places (c .before) in
     book-off-map (λ h. let x = h .0 in omega (arith, c .if1 .taken))
 
--- src/lib.rt:139:9
 returns-2 : tie.Need-returns-2
 returns-2 c =
     let l = places (c .before .before) in
     book-off-map (λ h. let x = h .1 in omega (arith, c .if2 .taken))
 
--- src/lib.rt:145:9
 returns-3 : tie.Need-returns-3
-returns-3 c =
-    let o = on-map (c .before .before .before) (c .before .before .if1 .left) (c .before .if2 .left) in
-    book-off-day o (c .if3 .taken)
+returns-3 c = book-off-day (on-map (c .before .before .before) (c .before .before .if1 .left) (c .before .if2 .left)) (c .if3 .taken)
 
--- src/lib.rt:152:9
 returns-4 : tie.Need-returns-4
-returns-4 c =
-    let o = on-map (c .before .before .before .before) (c .before .before .before .if1 .left) (c .before .before .if2 .left) in
-    book-no-tickets o (c .before .if3 .left) (c .if4 .taken)
+returns-4 c = book-no-tickets (on-map (c .before .before .before .before) (c .before .before .before .if1 .left) (c .before .before .if2 .left)) (c .before .if3 .left) (c .if4 .taken)
 
--- src/lib.rt:160:9
 route-requires : tie.Need-route-requires
-route-requires c κs = (c .before .before .before .before .before .before .pre .lanes, (room-there (c .before .before .before .before .before .before .pre), ((c .before .before .before .before .before .if1 .left, c .before .before .before .before .if2 .left, c .before .before .before .if3 .left), (λ v h. getD-replicate 1280 v 86401 0 h, (refl, refl)))))
+route-requires c κs =
+    let Q = c .before .before .before .before .before .before .pre in
+    let a = c .before .before .before .before .before .if1 .left in
+    let z = c .before .before .before .before .if2 .left in
+    (Q .lanes, (room-there Q, ((a, z, c .before .before .before .if3 .left), (λ v h. getD-replicate 1280 v 86401 0 h, (refl, refl)))))
 
--- src/lib.rt:185:9
 returns-5 : tie.Need-returns-5
 returns-5 c =
     let o = on-map (c .before .before .before .before .before .before .before .before) (c .before .before .before .before .before .before .before .if1 .left) (c .before .before .before .before .before .before .if2 .left) in
-    book-no-plan o (c .before .before .before .before .before .if3 .left) (c .before .before .before .before .if4 .left) (none-found (c .before .before .before .before .before .before .before .before .pre) (c .before .route .ensures) (c .if5 .taken))
+    let none = none-found (c .before .before .before .before .before .before .before .before .pre) (c .before .route .ensures) (c .if5 .taken) in
+    book-no-plan o (c .before .before .before .before .before .if3 .left) (c .before .before .before .before .if4 .left) none
 
--- src/lib.rt:190:8
 add-if6 : tie.Need-add-if6
 add-if6 c = search needs
 
--- src/lib.rt:191:9
 returns-6 : tie.Need-returns-6
 returns-6 c =
     let o = on-map (c .before .before .before .before .before .before .before .before .before) (c .before .before .before .before .before .before .before .before .if1 .left) (c .before .before .before .before .before .before .before .if2 .left) in
     let Q = c .before .before .before .before .before .before .before .before .before .pre in
     let R = c .before .before .route .ensures in
     let h : 0 < c .before .before .route .result = omega (arith, c .before .if5 .left) in
-    book-full o (c .before .before .before .before .before .before .if3 .left) (c .before .before .before .before .before .if4 .left) (found-chosen Q R h) (found-permitted Q R h (o .1)) (omega (arith, route-long (found-fits Q R), c .if6 .taken))
+    book-full
+    o
+    (c .before .before .before .before .before .before .if3 .left)
+    (c .before .before .before .before .before .if4 .left)
+    (found-chosen Q R h)
+    (found-permitted Q R h (o .1))
+    (omega (arith, route-long (found-fits Q R), c .if6 .taken))
 
--- src/lib.rt:196:63
 sub-step-at : tie.Need-sub-step-at
 sub-step-at c = search needs
 
--- src/lib.rt:196:9
 step-at-requires : tie.Need-step-at-requires
-step-at-requires c κs = (found-fits (c .before .before .before .before .before .before .before .before .before .before .before .pre) (c .before .before .before .before .route .ensures), omega (arith, c .before .before .before .if5 .left))
+step-at-requires c κs =
+    let Q = c .before .before .before .before .before .before .before .before .before .before .before .pre in
+    (found-fits Q (c .before .before .before .before .route .ensures), omega (arith, c .before .before .before .if5 .left))
 
--- src/lib.rt:197:9
 enter-rows-requires : tie.Need-enter-rows-requires
 enter-rows-requires c κs =
     let o = on-map (c .before .before .before .before .before .before .before .before .before .before .before .before .before .before) (c .before .before .before .before .before .before .before .before .before .before .before .before .before .if1 .left) (c .before .before .before .before .before .before .before .before .before .before .before .before .if2 .left) in
@@ -99,11 +83,11 @@ enter-rows-requires c κs =
     let R = c .before .before .before .before .before .before .before .route .ensures in
     (found-fits Q R, found-enters Q R (omega (arith, c .before .before .before .before .before .before .if5 .left)) (o .1) (c .before .before .before .before .before .if6 .left))
 
--- src/lib.rt:198:9
 issued-requires : tie.Need-issued-requires
-issued-requires c κs = omega (arith, ap (λ (x : Book). x .«next_ticket») (c .enter-rows .ensures), c .before .before .before .before .before .before .before .before .before .before .before .if4 .left)
+issued-requires c κs =
+    let e = ap (λ (x : Book). x .«next_ticket») (c .enter-rows .ensures) in
+    omega (arith, c .before .before .before .before .before .before .before .before .before .before .before .if4 .left)
 
--- src/lib.rt:105:1
 returns-7 : tie.Need-returns-7
 returns-7 c =
     let o = on-map (c .before .before .before .before .before .before .before .before .before .before .before .before .before .before .before .before) (c .before .before .before .before .before .before .before .before .before .before .before .before .before .before .before .if1 .left) (c .before .before .before .before .before .before .before .before .before .before .before .before .before .before .if2 .left) in
@@ -111,12 +95,17 @@ returns-7 c =
     let R = c .before .before .before .before .before .before .before .before .before .route .ensures in
     let A = found-fits Q R in
     let h : 0 < c .before .before .before .before .before .before .before .before .before .route .result = omega (arith, c .before .before .before .before .before .before .before .before .if5 .left) in
-    book-done o (c .before .before .before .before .before .before .before .before .before .before .before .before .before .if3 .left) (c .before .before .before .before .before .before .before .before .before .before .before .before .if4 .left) (found-chosen Q R h) (found-permitted Q R h (o .1))
-      (omega (arith, route-long A, c .before .before .before .before .before .before .before .if6 .left))
-      (route-arrives _ A h ∙ sym (ap (λ (x : Row). x .exit) (c .before .before .before .before .step-at .ensures)))
-      (route-long A)
-      (c .before .enter-rows .ensures)
-      (c .issued .ensures)
+    book-done
+    o
+    (c .before .before .before .before .before .before .before .before .before .before .before .before .before .if3 .left)
+    (c .before .before .before .before .before .before .before .before .before .before .before .before .if4 .left)
+    (found-chosen Q R h)
+    (found-permitted Q R h (o .1))
+    (omega (arith, route-long A, c .before .before .before .before .before .before .before .if6 .left))
+    (route-arrives _ A h ∙ sym (ap (λ (x : Row). x .exit) (c .before .before .before .before .step-at .ensures)))
+    (route-long A)
+    (c .before .enter-rows .ensures)
+    (c .issued .ensures)
 
 pub book-sound-spec : {M : Type 1} → statement M
 book-sound-spec =
