@@ -1,23 +1,18 @@
--- Map and book written to arrays and vetted there: what is found of the arrays holds of the map and the book, because a book that could not be
--- read is given 1,025 rows, which no well-formed book has, and every other one's rows are those in the arrays.
+-- Map and book written to arrays and vetted there: what is found of the arrays holds of the map and the book.
 use Prim.Native.Nat.{ℕ, _≤_, _<_}
 use mathlib.Core.Path.{_≡_, sym, subst}
-use mathlib.Core.Logic.{⊎-elim}
-use mathlib.Core.Bool.{Bool, true, false}
 use mathlib.Core.List.{List}
 use native.Mathlib.Omega.{arith}
 use lib.ListN.{length}
-use Rattle.laws.specs.Tests.{true-or-false}
 use Rattle.rules.specs.declared.Map.{Map}
 use Rattle.rules.specs.declared.Book.{Book}
 use Rattle.rules.specs.Map.{Yard, GoodMap, mapYard}
 use Rattle.rules.specs.Book.{WellFormed, GoodBook, rowsOf, bookOf}
 use Rattle.flat.specs.Flat.{rowsIn, yardIn}
-use Rattle.flat.specs.Laws.{rows-long}
 use Rattle.search.specs.Lanes.{Lanes}
 use Rattle.vet.specs.Vetted.{Vetted}
 use Rattle.flatten.specs.Maps.{PlacesFlat, LinksFlat, good-flat, flat-good, yard-same}
-use Rattle.flatten.specs.Books.{BookFlat}
+use Rattle.flatten.specs.Read.{BookRead, read-true, read-good, good-read}
 use Rattle.keeping.specs.Books.{book-of-rows}
 
 -- the arrays are those of a sound map and of the good book b, and all its free windows are known
@@ -37,25 +32,7 @@ pub record Surveyed (m : Map) (b : Book) (C D F T H L K X N P S E I : List ℕ) 
   pub yard : r < 1281 → yardIn C D (m .«place_count») F T (m .«link_count») ≡ mapYard m
   pub ready : r < 1281 → Ready b C D F T H L (m .«place_count») (m .«link_count») K X N P S E I r
 
--- ---- a book read, or given 1,025 rows
-
-module _ {b : Book} {K X N : List ℕ} {read : Bool} {count : ℕ} (B : BookFlat b K X N read)
-    (told : (read ≡ true → count ≡ b .count) × (read ≡ false → count ≡ 1025)) where
-  formed-read : {Y : Yard} → WellFormed Y (rowsIn K X N count) (b .«next_ticket») → read ≡ true
-  formed-read W = ⊎-elim (λ t. t) (λ f. absurd (omega (arith, W .few, rows-long K X N count, told .1 f))) (true-or-false read)
-
-  formed-good : {Y : Yard} → WellFormed Y (rowsIn K X N count) (b .«next_ticket») → GoodBook Y b
-  formed-good {Y} W =
-      let t = formed-read W in
-      B .good t Y (subst (λ (n : ℕ). WellFormed Y (rowsIn K X N n) (b .«next_ticket»)) (told .0 t) W)
-
-  good-formed : {Y : Yard} → GoodBook Y b → WellFormed Y (rowsIn K X N count) (b .«next_ticket»)
-  good-formed {Y} G =
-      let f = B .formed Y G in
-      subst (λ (n : ℕ). WellFormed Y (rowsIn K X N n) (b .«next_ticket»)) (sym (told .0 (f .0))) (f .1)
-
-  -- ---- both vetted
-
+module _ {b : Book} {K X N : List ℕ} {count : ℕ} (B : BookRead b K X N count) where
   module _
       {m : Map} {C D F T H L : List ℕ} {P S E I : List ℕ} {r : ℕ}
       (places : PlacesFlat m C D) (links : LinksFlat m F T)
@@ -72,23 +49,23 @@ module _ {b : Book} {K X N : List ℕ} {read : Bool} {count : ℕ} (B : BookFlat
       same-yard h = yard-same places links lp ll (good-map h)
 
       good-here : r < 1281 → GoodBook Y b
-      good-here h = formed-good (Q .formed h)
+      good-here h = read-good B Y (Q .formed h)
 
       as-read : r < 1281 → count ≡ b .count
-      as-read h = told .0 (formed-read (Q .formed h))
+      as-read h = B .whole (read-true B Y (Q .formed h))
 
       pub surveyed : Surveyed m b C D F T H L K X N P S E I r
       surveyed = record {
         bound = Q .bound;
         no-map = λ e G. Q .no-map e (good-flat places links lp ll G);
         map = good-map;
-        no-book = λ e G. Q .no-book e (good-formed (subst (λ (y : Yard). GoodBook y b) (sym (same-yard (omega arith))) G));
+        no-book = λ e G. Q .no-book e (good-read B Y (subst (λ (y : Yard). GoodBook y b) (sym (same-yard (omega arith))) G));
         book = λ h. subst (λ (y : Yard). GoodBook y b) (same-yard (omega arith)) (good-here h);
         yard = λ h. same-yard (omega arith);
         ready = λ h. record {
           lanes = subst (λ (n : ℕ). Lanes C D F T H L (m .«place_count») (m .«link_count») (rowsIn K X N n) n P S E I r) (as-read h) (Q .lanes h);
           formed = good-here h .formed;
-          rows = B .rows (formed-read (Q .formed h));
+          rows = B .flat .rows (read-true B Y (Q .formed h));
           whole = book-of-rows b (good-here h) lb;
         };
       }

@@ -23,16 +23,6 @@ ghost use Rattle.ledger.specs.Inserting.{Inserting};
 ghost use Rattle.booking.specs.Survey.{Surveyed, Ready};
 ghost use Rattle.booking.specs.Booking.{BookSound};
 
-// The count of a book that could be read, and one too many for a book that could not: no book has 1,025 rows.
-fn counted(read: bool, count: usize) -> usize
-    ensures { λ r. ⌜ (read ≡ true → r ≡ count) × (read ≡ false → r ≡ 1025) ⌝ }
-{
-    if read {
-        return count;
-    }
-    1025
-}
-
 // Map and book written to arrays and vetted: 1,282 where the map breaks a rule, 1,281 where the book is not well formed on it, else the number
 // of free windows.
 fn survey(
@@ -61,8 +51,7 @@ fn survey(
 {
     flatten::flat_places(m, cap, dur);
     flatten::flat_links(m, from, to);
-    let read = flatten::flat_book(b, key, exit, next);
-    let count = counted(read, b.count);
+    let count = flatten::read_book(b, key, exit, next);
     vet::vet(
         m.place_count,
         m.link_count,

@@ -1,4 +1,5 @@
 -- `booking::survey` meets its contract: places, links and rows stand in the arrays, and what vetting says of them holds of the map and the book.
+use Prim.Native.Nat.{_-_}
 use mathlib.Core.Path.{_≡_}
 use lib.ListN.{length}
 use borrow.Author.Needs.{needs}
@@ -22,43 +23,24 @@ flat-places-requires c κs = search needs
 flat-links-requires : tie.Need-flat-links-requires
 flat-links-requires c κs = search needs
 
-flat-book-requires : tie.Need-flat-book-requires
-flat-book-requires c κs =
-    let s = c .before .before .before .before .before .before .before .before .before in
-    let a = s .pre .1 .1 .0 in
-    let z = s .pre .1 .1 .1 .0 in
+read-book-requires : tie.Need-read-book-requires
+read-book-requires c κs =
+    let P = c .before .before .before .before .before .before .before .before .before .pre in
+    let a = P .1 .1 .0 in
+    let z = P .1 .1 .1 .0 in
     (a .0, (a .1, (a .2, (z .0, (z .1, z .2)))))
-
-counted-requires : tie.Need-counted-requires
-counted-requires c κs = search needs
 
 vet-requires : tie.Need-vet-requires
 vet-requires c κs =
-    let s = c .before .before .before .before .before .before .before .before .before .before .before .before .before .before .before .before .before .before .before .before .before .before .before .before in
-    let a = s .pre .1 .0 in
-    let z = s .pre .1 .1 .1 .1 in
-    ((a .0, a .1), (a .2, (c .before .before .before .before .before .before .before .before .before .before .before .before .before .before .flat-book .ensures .packed, (z .1, z .2, z .0, z .3))))
+    let P = c .before .before .before .before .before .before .before .before .before .before .before .before .before .before .before .before .before .before .before .before .before .before .before .pre in
+    let a = P .1 .0 in
+    let z = P .1 .1 .1 .1 in
+    ((a .0, a .1), (a .2, (c .before .before .before .before .before .before .before .before .before .before .before .before .before .read-book .ensures .flat .packed, (z .1, z .2, z .0, z .3))))
 
 returns : tie.Need-returns
-returns c =
-    let s = c .before .before .before .before .before .before .before .before .before .before .before .before .before .before .before .before .before .before .before .before .before .before .before .before .before in
-    surveyed
-    (c .before .before .before .before .before .before .before .before .before .before .before .before .before .before .before .flat-book .ensures)
-    (c .before .before .before .before .before .before .before .before .before .before .before .before .before .before .counted .ensures)
-    (c .before .before .before .before .before .before .before .before .before .before .before .before .before .before .before .before .before .before .before .before .before .before .flat-places .ensures)
-    (c .before .before .before .before .before .before .before .before .before .before .before .before .before .before .before .before .before .before .before .flat-links .ensures)
-    (places-long s)
-    (links-long s)
-    (rows-long s)
-    (c .vet .ensures)
+returns c = surveyed (c .before .before .before .before .before .before .before .before .before .before .before .before .before .before .read-book .ensures) (c .before .before .before .before .before .before .before .before .before .before .before .before .before .before .before .before .before .before .before .before .before .flat-places .ensures) (c .before .before .before .before .before .before .before .before .before .before .before .before .before .before .before .before .before .before .flat-links .ensures) (places-long (c .before .before .before .before .before .before .before .before .before .before .before .before .before .before .before .before .before .before .before .before .before .before .before .before)) (links-long (c .before .before .before .before .before .before .before .before .before .before .before .before .before .before .before .before .before .before .before .before .before .before .before .before)) (rows-long (c .before .before .before .before .before .before .before .before .before .before .before .before .before .before .before .before .before .before .before .before .before .before .before .before)) (c .vet .ensures)
 
 pub survey-spec : {M : Type 1} → statement M
 survey-spec =
     tie.close
-    (tie.spec
-    flat-places-requires
-    flat-links-requires
-    flat-book-requires
-    counted-requires
-    vet-requires
-    returns)
+    (tie.spec flat-places-requires flat-links-requires read-book-requires vet-requires returns)

@@ -17,8 +17,6 @@ use Rattle.search.proofs.broad.Reads as broad-reads
 use Rattle.search.proofs.+trail.{statement}
 use Rattle.search.proofs.+trail.Tie.{close}
 
--- are labels below its last one's, with that one, so the path holds it.
-
 abbrev μ-trail : Measures 3 trail-kinds.ps ℕ
 μ-trail κs a = at (now (a .1 .0)) (a .1 .1 .0)
 

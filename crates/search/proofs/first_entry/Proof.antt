@@ -11,8 +11,6 @@ use Rattle.search.specs.Entries.{Barred, barred-start, barred-next, barr
 use Rattle.search.proofs.first_entry.Statement.{statement}
 use Rattle.search.proofs.first_entry.Tie as tie
 
--- The seconds up to hi are left to look at.
-
 abbrev Inv-window : tie.InvT-window
 Inv-window key exit next n q p lo hi t₀ t = Barred (rowsIn key exit next n) q p lo t
 

@@ -12,8 +12,6 @@ use Rattle.search.specs.Relax.{AlongLinks, along-start, along-next, alon
 use Rattle.search.proofs.relax.Statement.{statement}
 use Rattle.search.proofs.relax.Tie as tie
 
--- the other windows have no entry from w. The number of the link falls.
-
 abbrev Inv-loop : tie.InvT-loop
 Inv-loop places links windows dur from to head chain place start end first key exit next n w label₀ live₀ least₀ before₀ p here soonest leave cur₀ label live least before cur = AlongLinks (rowsIn key exit next n) places links windows dur from to place start end w (at place w) label₀ live₀ before₀ cur label live least before
 

@@ -10,8 +10,6 @@ use Rattle.search.specs.Offers.{Relaxing, offered-start, offered-next, o
 use Rattle.search.proofs.relax_place.Statement.{statement}
 use Rattle.search.proofs.relax_place.Tie as tie
 
--- all that come after it.
-
 abbrev Inv-loop : tie.InvT-loop
 Inv-loop start end key exit next n a b q p d soonest leave w label₀ live₀ least₀ before₀ v₀ label live least before v = Relaxing (rowsIn key exit next n) q p soonest leave d start end a b w label₀ live₀ before₀ label live least before v
 
