@@ -51,8 +51,13 @@ returns-3 c =
     let a = v .before .before .before .before .before .before .before .before .args in
     let h = c .before .before .before .before .if2 .left in
     let W = v .vet .ensures in
-    inr (W .map (omega arith), inr (W .formed h,
-    c .before .before .page-sound .ensures (yardIn (a .cap .now) (a .dur .now) (a .n) (a .from .now) (a .to .now) (a .k)) (places-long (a .cap .now) (a .dur .now) (a .n))))
+    inr (
+      W .map (omega arith),
+      inr (
+        W .formed h,
+        c .before .before .page-sound .ensures (yardIn (a .cap .now) (a .dur .now) (a .n) (a .from .now) (a .to .now) (a .k)) (places-long (a .cap .now) (a .dur .now) (a .n)),
+      ),
+    )
 
 pub page-flat-spec : {M : Type 1} → statement M
 page-flat-spec =
