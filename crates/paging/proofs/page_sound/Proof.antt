@@ -29,19 +29,19 @@ returns-3 : tie.Need-returns-3
 returns-3 c =
     let b2 = c .before .before in
     let b1 = b2 .before in
-    λ Y e. page-bad-cursor (booked (b1 .before .before)) (omega (arith, b1 .if1 .left)) (b2 .if2 .left) (λ F. let x = F .place in omega (arith, c .if3 .taken)) refl
+    λ Y e. page-bad-cursor (booked (b1 .before .before)) (omega (arith, b1 .if1 .left)) (omega (arith, b2 .if2 .left)) (λ F. let x = F .place in omega (arith, c .if3 .taken)) refl
 
 returns-4 : tie.Need-returns-4
 returns-4 c =
     let b2 = c .before .before .before .before in
     let b1 = b2 .before in
-    λ Y e. page-bad-cursor (booked (b1 .before .before)) (omega (arith, b1 .if1 .left)) (b2 .if2 .left) (λ F. let x = F .entry in omega (arith, c .if4 .taken)) refl
+    λ Y e. page-bad-cursor (booked (b1 .before .before)) (omega (arith, b1 .if1 .left)) (omega (arith, b2 .if2 .left)) (λ F. let x = F .entry in omega (arith, c .if4 .taken)) refl
 
 returns-5 : tie.Need-returns-5
 returns-5 c =
     let b2 = c .before .before .before .before .before .before in
     let b1 = b2 .before in
-    λ Y e. page-bad-cursor (booked (b1 .before .before)) (omega (arith, b1 .if1 .left)) (b2 .if2 .left) (λ F. let x = F .ticket in omega (arith, c .if5 .taken)) refl
+    λ Y e. page-bad-cursor (booked (b1 .before .before)) (omega (arith, b1 .if1 .left)) (omega (arith, b2 .if2 .left)) (λ F. let x = F .ticket in omega (arith, c .if5 .taken)) refl
 
 -- once the last of its tests is passed, the cursor fits
 fits : (c : tie.Else5) (Y : Yard) → Y .places ≡ c .before .before .before .before .before .before .before .before .before .args .n
@@ -57,7 +57,7 @@ returns-6 c =
     let b5 = c .before in
     let b2 = b5 .before .before .before .before .before .before in
     let b1 = b2 .before in
-    λ Y e. page-short (booked (b1 .before .before)) (omega (arith, b1 .if1 .left)) (b2 .if2 .left) (fits b5 Y e) (c .if6 .taken) refl
+    λ Y e. page-short (booked (b1 .before .before)) (omega (arith, b1 .if1 .left)) (omega (arith, b2 .if2 .left)) (fits b5 Y e) (c .if6 .taken) refl
 
 page-of-requires : tie.Need-page-of-requires
 page-of-requires c κs =
@@ -77,7 +77,7 @@ returns-7 c =
     let b5 = b6 .before in
     let b2 = b5 .before .before .before .before .before .before in
     let b1 = b2 .before in
-    λ Y e. page-shown (booked (b1 .before .before)) (omega (arith, b1 .if1 .left)) (b2 .if2 .left) (fits b5 Y e) (omega (arith, b6 .if6 .left)) (q .page-of .ensures)
+    λ Y e. page-shown (booked (b1 .before .before)) (omega (arith, b1 .if1 .left)) (omega (arith, b2 .if2 .left)) (fits b5 Y e) (omega (arith, b6 .if6 .left)) (q .page-of .ensures)
 
 pub page-sound-spec : {M : Type 1} → statement M
 page-sound-spec =
