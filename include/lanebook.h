@@ -2,8 +2,9 @@
  * Lanebook for C and C++: plan a run beside the book, and read the book by pages.
  *
  * Both calls look at a map and a book that the caller holds as bytes, and write packed rows to
- * the caller's answer slice. They keep nothing between calls, take no memory and call nothing
- * of the system, so several threads may call them at once.
+ * the caller's answer slice. They keep nothing between calls, allocate nothing and call nothing
+ * but memset, so several threads may call them at once. A thread that calls them should have
+ * 128 KiB of stack to spare.
  *
  * Link with target/staticlib/libportal.a, which `rt staticlib portal` writes; no other library
  * is needed (x86-64 Linux).
@@ -118,9 +119,10 @@ uint64_t lanebook_plan(const uint8_t *map, size_t map_len, const uint8_t *book, 
  * The book's rows with keys above the cursor (place, entry, ticket), least first: all of them,
  * or the first `size` where there are more. The answer slice needs room for `size` rows.
  * Done: lanebook_more and lanebook_count; lanebook_next_cursor gives the next page's cursor.
- * A walk begins at lanebook_first_cursor() and ends at the first page without more. The book
- * may change between pages: every row that stands throughout is shown exactly once. Only the
- * cursor's key counts; its row may be gone.
+ * A walk begins at lanebook_first_cursor(), keeps to one map and ends at the first page without
+ * more. The book may change between pages: every row that stands throughout is shown exactly
+ * once, and none twice. Only the cursor's key counts; its row may be gone. A refused page is no
+ * part of a walk: it leaves the cursor where it was.
  */
 uint64_t lanebook_page(const uint8_t *map, size_t map_len, const uint8_t *book, size_t book_len,
                        uint32_t size, uint32_t place, uint32_t entry, uint32_t ticket,
