@@ -1,0 +1,4 @@
+// Input cut into lines.
+pub fn same(x: u32) -> u32 {
+    x
+}
