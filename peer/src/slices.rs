@@ -1,5 +1,9 @@
-//! Writes random calls of the portal, most of them beside a book that is well formed or
-//! nearly so. The seed decides everything.
+//! Writes random calls of the portal. The seed decides everything.
+//!
+//! The kind `calls`, where none is named: most calls stand beside a book that is well formed or
+//! nearly so. `sweep`: one sound map and book, then each length of each slice, each byte
+//! changed, counts that lie, and each number at and past its range. `limits`: as many places,
+//! links, rows and steps as there may be, and one more.
 
 mod barn;
 mod desk;
@@ -165,46 +169,36 @@ fn damage_length(dice: &mut Dice, slice: &mut Vec<u8>) {
     }
 }
 
-fn main() -> io::Result<()> {
-    let words: Vec<String> = std::env::args().skip(1).collect();
-    let seed: u64 = match words.len() {
-        1 => words[0].parse().unwrap_or(0),
-        _ => {
-            eprintln!("usage: slices SEED");
-            exit(2)
-        }
-    };
-    let mut dice = Dice::new(seed);
+fn calls(dice: &mut Dice, out: &mut impl Write) -> io::Result<()> {
     let mut seconds = Seconds::new();
-    let mut out = io::stdout().lock();
     for _ in 0..40 {
-        let mut map = some_map(&mut dice);
+        let mut map = some_map(dice);
         let n = map.places.len();
         let blind = dice.chance(30);
-        let mut book = some_book(&mut dice, &mut seconds, &map, blind);
+        let mut book = some_book(dice, &mut seconds, &map, blind);
         if dice.chance(35) {
-            damage_book(&mut dice, &mut book, n);
+            damage_book(dice, &mut book, n);
         }
         if dice.chance(10) {
-            damage_map(&mut dice, &mut map);
+            damage_map(dice, &mut map);
         }
         let mut map = map_slice(&map);
         let mut book = book_slice(&book);
         if dice.chance(4) {
-            damage_length(&mut dice, &mut map);
+            damage_length(dice, &mut map);
         }
         if dice.chance(6) {
-            damage_length(&mut dice, &mut book);
+            damage_length(dice, &mut book);
         }
         let place = |dice: &mut Dice| if dice.chance(5) { dice.pick(&[n, 255, 256]) } else { dice.below(n) };
         if dice.chance(50) {
-            let (start, destination) = (place(&mut dice), place(&mut dice));
+            let (start, destination) = (place(dice), place(dice));
             let second = if dice.chance(8) { dice.pick(&[86_390, 86_400, 86_401, 16_777_216]) } else { dice.below(40) };
             let length = dice.pick(&[0, 10, 11, 22, 32, 33, 44, 110, 14_080]);
             writeln!(out, "plan {} {} {} {} {} {}", hex(&map), hex(&book), start, destination, second, length)?;
         } else {
             let size = dice.pick(&[0, 1, 2, 3, 5, 64, 65, 255, 256]);
-            let at = place(&mut dice);
+            let at = place(dice);
             let entry = if dice.chance(10) { dice.pick(&[86_400, 86_401, 16_777_216]) } else { dice.below(40) };
             let ticket = if dice.chance(10) { dice.pick(&[999_999, 1_000_000, 16_777_216]) } else { dice.below(8) };
             let length = dice.pick(&[0, 11, 22, 54, 55, 703, 704, 14_080]);
@@ -212,4 +206,242 @@ fn main() -> io::Result<()> {
         }
     }
     Ok(())
+}
+
+/// A call on slices: plan from start to destination at a second, or a page of a size after a
+/// cursor; then the length of the answer slice.
+#[derive(Clone, Copy)]
+enum Asked {
+    Plan([u64; 4]),
+    Page([u64; 5]),
+}
+
+fn ask(out: &mut impl Write, map: &[u8], book: &[u8], asked: Asked) -> io::Result<()> {
+    let (name, numbers): (&str, &[u64]) = match &asked {
+        Asked::Plan(numbers) => ("plan", numbers),
+        Asked::Page(numbers) => ("page", numbers),
+    };
+    write!(out, "{} {} {}", name, hex(map), hex(book))?;
+    for number in numbers {
+        write!(out, " {}", number)?;
+    }
+    writeln!(out)
+}
+
+/// Each slice that differs from this one in length or in one byte.
+fn neighbours(slice: &[u8]) -> Vec<Vec<u8>> {
+    let mut all: Vec<Vec<u8>> = (0..slice.len()).map(|length| slice[..length].to_vec()).collect();
+    for more in 1..=12 {
+        let mut longer = slice.to_vec();
+        longer.resize(slice.len() + more, 0);
+        all.push(longer);
+    }
+    for at in 0..slice.len() {
+        let was = slice[at];
+        for byte in [0, 255, was.wrapping_add(1), was.wrapping_sub(1)] {
+            if byte != was {
+                let mut other = slice.to_vec();
+                other[at] = byte;
+                all.push(other);
+            }
+        }
+    }
+    all
+}
+
+/// Raises or lowers the number in two bytes.
+fn count_by(slice: &mut [u8], at: usize, by: i32) {
+    let count = u16::from_be_bytes([slice[at], slice[at + 1]]).wrapping_add(by as u16);
+    slice[at..at + 2].copy_from_slice(&count.to_be_bytes());
+}
+
+/// Maps whose length is the one their counts give, and whose counts are not those of the map.
+fn lying_maps(map: &[u8]) -> Vec<Vec<u8>> {
+    let mut all = Vec::new();
+    // Two places are as long as three links.
+    for twos in [-2, -1, 1, 2] {
+        let mut other = map.to_vec();
+        count_by(&mut other, 0, -2 * twos);
+        count_by(&mut other, 2, 3 * twos);
+        all.push(other);
+    }
+    for (at, size) in [(0, 3), (2, 2)] {
+        let mut longer = map.to_vec();
+        longer.resize(map.len() + size, 0);
+        count_by(&mut longer, at, 1);
+        all.push(longer);
+        if map.len() >= 4 + size {
+            let mut shorter = map[..map.len() - size].to_vec();
+            count_by(&mut shorter, at, -1);
+            all.push(shorter);
+        }
+    }
+    all
+}
+
+fn lying_books(book: &[u8]) -> Vec<Vec<u8>> {
+    let mut longer = book.to_vec();
+    longer.resize(book.len() + 11, 0);
+    count_by(&mut longer, 3, 1);
+    let mut doubled = book.to_vec();
+    doubled.extend_from_slice(&book[5..]);
+    count_by(&mut doubled, 3, ((book.len() - 5) / 11) as i32);
+    let mut shorter = book[..book.len() - 11].to_vec();
+    count_by(&mut shorter, 3, -1);
+    vec![longer, doubled, shorter]
+}
+
+fn sweep(dice: &mut Dice, out: &mut impl Write) -> io::Result<()> {
+    let mut seconds = Seconds::new();
+    // A sound map, a book with a run or more on it, and a run that can be planned.
+    let (map, book, request, stays) = loop {
+        let map = some_map(dice);
+        let book = some_book(dice, &mut seconds, &map, false);
+        let (start, destination) = (dice.below(map.places.len()), dice.below(map.places.len()));
+        let second = dice.below(40);
+        if let Some(plan) = seconds.plan(&map, &book.rows, start, destination, second as u32) {
+            if !book.rows.is_empty() {
+                break (map, book, [start as u64, destination as u64, second as u64], plan.len());
+            }
+        }
+    };
+    let n = map.places.len() as u64;
+    let key = book.rows[dice.below(book.rows.len())].key();
+    let size = dice.among(1, 8) as u64;
+    let plan = [request[0], request[1], request[2], 11 * stays as u64];
+    let page = [size, key.0 as u64, key.1 as u64, key.2 as u64, 11 * size];
+    let (map, book) = (map_slice(&map), book_slice(&book));
+
+    for length in 0..=plan[3] + 12 {
+        ask(out, &map, &book, Asked::Plan([plan[0], plan[1], plan[2], length]))?;
+    }
+    for length in 0..=page[4] + 12 {
+        ask(out, &map, &book, Asked::Page([page[0], page[1], page[2], page[3], length]))?;
+    }
+    let either = |dice: &mut Dice| if dice.chance(50) { Asked::Plan(plan) } else { Asked::Page(page) };
+    for other in neighbours(&map).iter().chain(&lying_maps(&map)) {
+        ask(out, other, &book, either(dice))?;
+    }
+    for other in neighbours(&book).iter().chain(&lying_books(&book)) {
+        ask(out, &map, other, either(dice))?;
+    }
+    // Each number at the ends of its range, past them, and where 8, 16, 24 or 32 bits end.
+    let ends = [0, 1, n - 1, n, n + 1, 63, 64, 65, 86_399, 86_400, 86_401, 999_999, 1_000_000, 1_000_001];
+    let widths = [1 << 8, 1 << 16, 1 << 24, 1 << 31, 1 << 32, u64::MAX - 1_000_000];
+    for at in 0..4 {
+        let was = page[at];
+        let wide = widths.iter().flat_map(|&width| [width - 1, width, width + was]);
+        for number in ends.iter().copied().chain(wide) {
+            let mut numbers = page;
+            numbers[at] = number;
+            numbers[4] = 704;
+            ask(out, &map, &book, Asked::Page(numbers))?;
+        }
+    }
+    for at in 0..3 {
+        let was = plan[at];
+        let wide = widths.iter().flat_map(|&width| [width - 1, width, width + was]);
+        for number in ends.iter().copied().chain(wide) {
+            let mut numbers = plan;
+            numbers[at] = number;
+            ask(out, &map, &book, Asked::Plan(numbers))?;
+        }
+    }
+    // Several things wrong at once: the order of the refusals.
+    let map_bad = [&map[..], &[0]].concat();
+    let book_bad = [&book[..], &[0]].concat();
+    for wrong in 0..32 {
+        let bad = |bit: u32| wrong >> bit & 1 == 1;
+        let map = if bad(0) { &map_bad } else { &map };
+        let book = if bad(1) { &book_bad } else { &book };
+        let choose = |bit: u32, good: u64, wrong: u64| if bad(bit) { wrong } else { good };
+        let numbers = [plan[0], choose(2, plan[1], n), choose(3, plan[2], 86_401), choose(4, plan[3], 10)];
+        ask(out, map, book, Asked::Plan(numbers))?;
+        let numbers = [choose(2, size, 65), choose(3, page[1], n), page[2], page[3], choose(4, page[4], 11 * size - 1)];
+        ask(out, map, book, Asked::Page(numbers))?;
+    }
+    Ok(())
+}
+
+fn limits(dice: &mut Dice, out: &mut impl Write) -> io::Result<()> {
+    // A line of 256 places and other links, 1,024 in all.
+    let far = |from: usize, step: usize| (from, (from + step) % 256);
+    let longest = dice.among(1, 300);
+    let mut map = Map {
+        places: (0..256)
+            .map(|_| Place { capacity: dice.pick(&[1, 2, 15, 16]), duration: dice.among(1, longest) as u32 })
+            .collect(),
+        links: (0..256).map(|from| far(from, 1)).collect(),
+    };
+    for step in [255, 128 + dice.below(16), 160 + dice.below(16)] {
+        map.links.extend((0..256).map(|from| far(from, step)));
+    }
+    // Only the line's own links, so that a run goes through every place.
+    let line = Map { places: map.places.clone(), links: (0..255).map(|from| far(from, 1)).collect() };
+    // 1,024 stays, each a run of its own, up to a place's capacity at a time.
+    let mut book = Book::new();
+    for ticket in 1..=1_024 {
+        let place = (ticket as usize * 7) % 256;
+        let duration = map.places[place].duration;
+        let turn = (ticket - 1) / 256 * duration;
+        book.rows.push(Row { place, entry: 60 + turn, ticket, exit: 60 + turn + duration, next: place });
+    }
+    book.rows.sort_by_key(|row| row.key());
+    book.next_ticket = dice.pick(&[1_025, LAST_TICKET, LAST_TICKET + 1]);
+    let mut over = book.clone();
+    let last = over.rows[1_023];
+    over.rows.push(Row { ticket: 1_025, entry: last.exit, exit: 2 * last.exit - last.entry, ..last });
+    over.next_ticket = LAST_TICKET + 1;
+
+    let (whole, whole_line) = (map_slice(&map), map_slice(&line));
+    let (full, empty) = (book_slice(&book), book_slice(&Book::new()));
+    map.links.push(far(0, 2));
+    let links_over = map_slice(&map);
+    map.links.pop();
+    map.places.push(Place { capacity: 1, duration: 1 });
+    let places_over = map_slice(&map);
+    let key = book.rows[dice.below(1_024)].key();
+    let page = |size: u64, length: u64| Asked::Page([size, key.0 as u64, key.1 as u64, key.2 as u64, length]);
+    let plan = |destination: usize, length: u64| Asked::Plan([0, destination as u64, 0, length]);
+
+    for size in [1, 63, 64, 65] {
+        ask(out, &whole, &full, page(size, 704))?;
+    }
+    for length in [703, 704, 14_080] {
+        ask(out, &whole, &full, page(64, length))?;
+    }
+    ask(out, &whole, &full, Asked::Page([64, 255, 86_400, 999_999, 704]))?;
+    ask(out, &whole, &full, Asked::Page([64, 0, 0, 0, 704]))?;
+    ask(out, &whole, &book_slice(&over), page(64, 704))?;
+    ask(out, &links_over, &full, page(64, 704))?;
+    ask(out, &places_over, &full, page(64, 704))?;
+    ask(out, &whole, &full, plan(dice.below(256), 14_080))?;
+    // 256 stays, and one place too few.
+    for (book, length) in [(&empty, 2_815), (&empty, 2_816), (&full, 2_816), (&full, 14_080)] {
+        ask(out, &whole_line, book, plan(255, length))?;
+    }
+    Ok(())
+}
+
+fn main() -> io::Result<()> {
+    let words: Vec<String> = std::env::args().skip(1).collect();
+    let (seed, kind) = match &words[..] {
+        [seed] => (seed, "calls"),
+        [seed, kind] => (seed, kind.as_str()),
+        _ => usage(),
+    };
+    let mut dice = Dice::new(seed.parse().unwrap_or(0));
+    let mut out = io::BufWriter::new(io::stdout().lock());
+    match kind {
+        "calls" => calls(&mut dice, &mut out)?,
+        "sweep" => sweep(&mut dice, &mut out)?,
+        "limits" => limits(&mut dice, &mut out)?,
+        _ => usage(),
+    }
+    out.flush()
+}
+
+fn usage() -> ! {
+    eprintln!("usage: slices SEED [calls|sweep|limits]");
+    exit(2)
 }
