@@ -24,7 +24,7 @@ use std::process::{exit, Command, Stdio};
 
 const SEED: u64 = 2_026;
 const LIST: usize = 1_280 * PACKED_ROW;
-const ROUNDS: usize = 101;
+const ROUNDS: usize = 201;
 const PROGRAM_ROUNDS: usize = 5;
 /// A turn of one side takes about so many nanoseconds, so that few turns are cut in two.
 const TURN: f64 = 400_000.0;
