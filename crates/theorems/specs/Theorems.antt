@@ -29,7 +29,8 @@ use Rattle.keeping.specs.Books.{rows-of-book}
 use Rattle.keeping.specs.Keeping.{book-rows, rows-book, cancel-rows, rows-cancel}
 use Rattle.walks.specs.Walk.{Walk, Walked}
 use Rattle.walks.specs.WalkLaws.{walked}
-use Rattle.unique.specs.Unique.{no-second-plan, no-second-booking, no-second-cancelling, no-second-page}
+use Rattle.rules.specs.Portal.{PortalPlan, PortalPage}
+use Rattle.unique.specs.Unique.{no-second-plan, no-second-booking, no-second-cancelling, no-second-page, no-second-portal-plan, no-second-portal-page}
 
 -- ---- demand 2: "the plan given overfills no place, meets no booked wagon in a head-on exchange, and no permitted plan arrives sooner"
 
@@ -186,3 +187,9 @@ one-cancellation {m} {b} {ticket} {r} {r′} = no-second-cancelling m b ticket r
 
 pub one-page : {m : Map} {b : Book} {size : ℕ} {k : Key} {was out out′ : List ℕ} {r r′ : Paged} → PageIs m b size k was out r → PageIs m b size k was out′ r′ → (r ≡ r′) × (out ≡ out′)
 one-page {m} {b} {size} {k} {was} {out} {out′} {r} {r′} = no-second-page (GoodMap m) (GoodBook (mapYard m) b) (mapYard m) (rowsOf b) size k was out out′ r r′
+
+pub one-portal-plan : {map book : List ℕ} {start dest s : ℕ} {was out out′ : List ℕ} {r r′ : ℕ} → PortalPlan map book start dest s was out r → PortalPlan map book start dest s was out′ r′ → (r ≡ r′) × (out ≡ out′)
+one-portal-plan {map} {book} {start} {dest} {s} {was} {out} {out′} {r} {r′} = no-second-portal-plan map book start dest s was out out′ r r′
+
+pub one-portal-page : {map book : List ℕ} {size : ℕ} {k : Key} {was out out′ : List ℕ} {r r′ : ℕ} → PortalPage map book size k was out r → PortalPage map book size k was out′ r′ → (r ≡ r′) × (out ≡ out′)
+one-portal-page {map} {book} {size} {k} {was} {out} {out′} {r} {r′} = no-second-portal-page map book size k was out out′ r r′
