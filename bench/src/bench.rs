@@ -192,6 +192,9 @@ const HEAD: &str = "# Figures
 Written by `bench/run`. The portal's static library beside a plain Rust program that does the same work on the same slices,
 map and book tested at each call: medians of the processor time of a call, both sides in alternation in one run, every answer
 compared. Ratio is portal by peer; spread is the distance of the quartiles as a part of the median, the greater of both sides.
+
+Where the linker puts the library's code counts too: the same library was up to a quarter slower at 32 mod 64 than at 0, 16 or
+48. Compare only figures of one placement.
 ";
 
 const FRAMES_HEAD: &str = "
@@ -202,6 +205,7 @@ it is tests neither map nor book again once it has them.
 fn time(report: &str, scenes: &[Scene], programs: &[&str]) {
     let mut text = String::from(HEAD);
     text.push('\n');
+    say(&mut text, format!("In this run planning's code begins at {} mod 64.\n", lanebook_plan as usize % 64));
     table(scenes, &mut text);
     if let &[lanebook, peer, frames] = programs {
         text.push_str(FRAMES_HEAD);

@@ -168,16 +168,20 @@ impl Yard {
         Scene { name: name.to_string(), places, links, rows, map, book, calls }
     }
 
-    /// Requests between random places in the open hours that have a plan.
-    fn requests(&mut self) -> Vec<Call> {
-        let mut calls = Vec::new();
-        while calls.len() < CALLS {
-            let (start, destination, second) = (self.some_end(), self.some_end(), self.some_second());
+    /// A request in the open hours that has a plan, between places as given or random ones.
+    fn request(&mut self, given_start: Option<u32>, given_destination: Option<u32>) -> Call {
+        loop {
+            let start = given_start.unwrap_or(self.some_end());
+            let destination = given_destination.unwrap_or(self.some_end());
+            let second = self.some_second();
             if start != destination && self.plan(start, destination, second).is_some() {
-                calls.push(Call::Plan { start, destination, second });
+                return Call::Plan { start, destination, second };
             }
         }
-        calls
+    }
+
+    fn requests(&mut self) -> Vec<Call> {
+        (0..CALLS).map(|_| self.request(None, None)).collect()
     }
 
     /// Pages of the largest size from cursors all over the book.
@@ -219,15 +223,13 @@ fn hot(seed: u64) -> Scene {
         yard.book(start, destination, second, 850);
     }
     yard.fill(1_000);
-    let mut calls = yard.requests();
-    for pair in calls[..CALLS / 2].chunks_exact_mut(2) {
-        if let Call::Plan { start, .. } = &mut pair[0] {
-            *start = kitchen;
-        }
-        if let Call::Plan { destination, .. } = &mut pair[1] {
-            *destination = gate;
-        }
-    }
+    let calls = (0..CALLS)
+        .map(|i| match i % 4 {
+            0 => yard.request(Some(kitchen), None),
+            1 => yard.request(None, Some(gate)),
+            _ => yard.request(None, None),
+        })
+        .collect();
     yard.scene("hot", calls)
 }
 
