@@ -205,7 +205,7 @@ it is tests neither map nor book again once it has them.
 fn time(report: &str, scenes: &[Scene], programs: &[&str]) {
     let mut text = String::from(HEAD);
     text.push('\n');
-    say(&mut text, format!("In this run planning's code begins at {} mod 64.\n", lanebook_plan as usize % 64));
+    say(&mut text, format!("In this run planning's code begins at {} mod 64.\n", lanebook_plan as *const () as usize % 64));
     table(scenes, &mut text);
     if let &[lanebook, peer, frames] = programs {
         text.push_str(FRAMES_HEAD);
