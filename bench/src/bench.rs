@@ -1,0 +1,248 @@
+//! Runs the portal and the plain peer on the same scenarios, and `lanebook` and the peer's frame program on the same frames.
+//!
+//!     bench check [LANEBOOK PEER FRAMES]            every answer agrees
+//!     bench time REPORT [LANEBOOK PEER FRAMES]      the same, and medians, also written to the file REPORT
+//!     bench repeat SCENARIO ROUNDS                  the portal alone on one scenario, for a profile
+//!     bench frames COUNT                            prints mixed frames
+
+mod barn;
+mod calls;
+mod clock;
+mod desk;
+#[path = "../../peer/src/dice.rs"]
+mod dice;
+mod plan;
+mod scenes;
+mod traffic;
+
+use barn::PACKED_ROW;
+use scenes::{Call, Scene};
+use std::fs::File;
+use std::hint::black_box;
+use std::io::{self, Write};
+use std::process::{exit, Command, Stdio};
+
+const SEED: u64 = 2_026;
+const LIST: usize = 1_280 * PACKED_ROW;
+const ROUNDS: usize = 201;
+const PROGRAM_ROUNDS: usize = 5;
+/// A turn of one side takes about so many nanoseconds, so that few turns are cut in two.
+const TURN: f64 = 400_000.0;
+
+extern "C" {
+    fn lanebook_plan(
+        map: *const u8, map_len: usize, book: *const u8, book_len: usize, start: u32, destination: u32, second: u32,
+        answer: *mut u8, answer_len: usize,
+    ) -> u64;
+    fn lanebook_page(
+        map: *const u8, map_len: usize, book: *const u8, book_len: usize, size: u32, place: u32, entry: u32, ticket: u32,
+        answer: *mut u8, answer_len: usize,
+    ) -> u64;
+}
+
+type Side = fn(&[u8], &[u8], Call, &mut [u8]) -> u64;
+
+#[inline(never)]
+fn portal(map: &[u8], book: &[u8], call: Call, answer: &mut [u8]) -> u64 {
+    let (m, k, b, c, a, l) = (map.as_ptr(), map.len(), book.as_ptr(), book.len(), answer.as_mut_ptr(), answer.len());
+    match call {
+        Call::Plan { start, destination, second } => unsafe { lanebook_plan(m, k, b, c, start, destination, second, a, l) },
+        Call::Page { size, place, entry, ticket } => unsafe { lanebook_page(m, k, b, c, size, place, entry, ticket, a, l) },
+    }
+}
+
+#[inline(never)]
+fn peer(map: &[u8], book: &[u8], call: Call, answer: &mut [u8]) -> u64 {
+    match call {
+        Call::Plan { start, destination, second } => calls::plan(map, book, start, destination, second, answer),
+        Call::Page { size, place, entry, ticket } => calls::page(map, book, size, place, entry, ticket, answer),
+    }
+}
+
+/// Where the two sides differ, in the result or in a byte of the list, on any call and with lists long and short.
+fn disagreement(scene: &Scene) -> Option<String> {
+    for (i, &call) in scene.calls.iter().enumerate() {
+        for length in [LIST, 5 * PACKED_ROW + 3, 0] {
+            let mut ours = vec![0xA5u8; LIST];
+            let mut theirs = ours.clone();
+            let one = portal(&scene.map, &scene.book, call, &mut ours[..length]);
+            let other = peer(&scene.map, &scene.book, call, &mut theirs[..length]);
+            if one != other || ours != theirs {
+                let what = format!("call {} with a list of {} bytes", i, length);
+                return Some(format!("{}: {}: portal {:#x}, peer {:#x}", scene.name, what, one, other));
+            }
+        }
+    }
+    None
+}
+
+fn check(scenes: &[Scene]) {
+    let wrong: Vec<String> = scenes.iter().filter_map(disagreement).collect();
+    wrong.iter().for_each(|line| println!("{}", line));
+    if !wrong.is_empty() {
+        exit(1);
+    }
+    let calls: usize = scenes.iter().map(|scene| scene.calls.len()).sum();
+    println!("{} scenarios, {} calls: all answers agree", scenes.len(), calls);
+}
+
+/// Nanoseconds a call, over `repeat` rounds of the scene's calls.
+fn turn(side: Side, scene: &Scene, repeat: usize, answer: &mut [u8]) -> f64 {
+    let begin = clock::own();
+    for _ in 0..repeat {
+        for &call in &scene.calls {
+            black_box(side(black_box(&scene.map), black_box(&scene.book), call, answer));
+        }
+    }
+    (clock::own() - begin) / (repeat * scene.calls.len()) as f64
+}
+
+/// Medians of both sides, and the greater of their quartiles' distances as a part of the median.
+struct Figures {
+    ours: f64,
+    peer: f64,
+    spread: f64,
+}
+
+impl Figures {
+    fn of(ours: Vec<f64>, peer: Vec<f64>) -> Figures {
+        let (one, quartiles) = clock::median(ours);
+        let (other, other_quartiles) = clock::median(peer);
+        Figures { ours: one, peer: other, spread: (quartiles / one).max(other_quartiles / other) }
+    }
+}
+
+/// Times both sides in alternation.
+fn timed(scene: &Scene) -> Figures {
+    let mut answer = vec![0u8; LIST];
+    let mut repeat = |side: Side| {
+        let once = turn(side, scene, 1, &mut answer).min(turn(side, scene, 1, &mut answer));
+        ((TURN / once) as usize / scene.calls.len()).max(1)
+    };
+    let (ours, theirs) = (repeat(portal), repeat(peer));
+    let (mut one, mut other) = (Vec::new(), Vec::new());
+    for _ in 0..ROUNDS {
+        one.push(turn(portal, scene, ours, &mut answer));
+        other.push(turn(peer, scene, theirs, &mut answer));
+    }
+    Figures::of(one, other)
+}
+
+/// Prints a line and keeps it for the report.
+fn say(report: &mut String, line: String) {
+    println!("{}", line);
+    report.push_str(&line);
+    report.push('\n');
+}
+
+fn table(scenes: &[Scene], report: &mut String) {
+    say(report, "| Scenario | Places | Links | Rows | Portal, µs | Peer, µs | Ratio | Spread |".to_string());
+    say(report, "|---|--:|--:|--:|--:|--:|--:|--:|".to_string());
+    for scene in scenes {
+        let got = timed(scene);
+        let (ours, peer, spread) = (got.ours / 1e3, got.peer / 1e3, got.spread * 100.0);
+        let size = format!("{} | {} | {}", scene.places, scene.links, scene.rows);
+        let times = format!("{:.2} | {:.2} | {:.2} | {:.0} %", ours, peer, ours / peer, spread);
+        say(report, format!("| {} | {} | {} |", scene.name, size, times));
+    }
+}
+
+/// What a program prints on a file of frames, and the processor time it took.
+fn ran(program: &str, words: &[&str], frames: &str) -> (Vec<u8>, f64) {
+    let input = File::open(frames).expect("the file of frames");
+    let begin = clock::children();
+    let ended = Command::new(program).args(words).stdin(input).stderr(Stdio::inherit()).output().expect("a program");
+    if !ended.status.success() {
+        println!("{} failed", program);
+        exit(1);
+    }
+    (ended.stdout, clock::children() - begin)
+}
+
+fn check_frames(lanebook: &str, peer: &str, frames: &str) {
+    let want = ran(peer, &[], frames).0;
+    if ran(lanebook, &[], frames).0 != want || ran(peer, &["--testing"], frames).0 != want {
+        println!("the answers to {} differ", frames);
+        exit(1);
+    }
+    let lines = want.iter().filter(|&&byte| byte == b'\n').count();
+    println!("frames: all {} lines of answers agree", lines);
+}
+
+/// Times `lanebook` and both forms of the peer in alternation.
+fn frame_table(lanebook: &str, peer: &str, frames: &str, report: &mut String) {
+    let count = std::fs::read(frames).expect("the file of frames").iter().filter(|&&byte| byte == b'\n').count();
+    let (mut ours, mut plain, mut testing) = (Vec::new(), Vec::new(), Vec::new());
+    for _ in 0..PROGRAM_ROUNDS {
+        ours.push(ran(lanebook, &[], frames).1 / count as f64);
+        plain.push(ran(peer, &[], frames).1 / count as f64);
+        testing.push(ran(peer, &["--testing"], frames).1 / count as f64);
+    }
+    say(report, format!("| {} mixed frames | lanebook, µs a frame | Peer, µs a frame | Ratio | Spread |", count));
+    say(report, "|---|--:|--:|--:|--:|".to_string());
+    for (name, times) in [("peer as it is", plain), ("peer that tests map and book at each question", testing)] {
+        let got = Figures::of(ours.clone(), times);
+        let (ours, peer, spread) = (got.ours / 1e3, got.peer / 1e3, got.spread * 100.0);
+        say(report, format!("| {} | {:.2} | {:.2} | {:.2} | {:.0} % |", name, ours, peer, ours / peer, spread));
+    }
+}
+
+const HEAD: &str = "# Figures
+
+Written by `bench/run`. The portal's static library beside a plain Rust program that does the same work on the same slices,
+map and book tested at each call: medians of the processor time of a call, both sides in alternation in one run, every answer
+compared. Ratio is portal by peer; spread is the distance of the quartiles as a part of the median, the greater of both sides.
+
+Where the linker puts the library's code counts too: the same library was up to a quarter slower at 32 mod 64 than at 0, 16 or
+48. Compare only figures of one placement.
+";
+
+const FRAMES_HEAD: &str = "
+The program `lanebook` beside the peer's own frame program on one file, processor time with that of the system. The peer as
+it is tests neither map nor book again once it has them.
+";
+
+fn time(report: &str, scenes: &[Scene], programs: &[&str]) {
+    let mut text = String::from(HEAD);
+    text.push('\n');
+    say(&mut text, format!("In this run planning's code begins at {} mod 64.\n", lanebook_plan as *const () as usize % 64));
+    table(scenes, &mut text);
+    if let &[lanebook, peer, frames] = programs {
+        text.push_str(FRAMES_HEAD);
+        text.push('\n');
+        println!();
+        frame_table(lanebook, peer, frames, &mut text);
+    }
+    std::fs::write(report, text).expect("the report is written");
+}
+
+fn main() -> io::Result<()> {
+    let words: Vec<String> = std::env::args().skip(1).collect();
+    let words: Vec<&str> = words.iter().map(String::as_str).collect();
+    match words[..] {
+        ["check", ref programs @ ..] | ["time", _, ref programs @ ..] if [0, 3].contains(&programs.len()) => {
+            let scenes = scenes::all(SEED);
+            check(&scenes);
+            if let &[lanebook, peer, frames] = programs {
+                check_frames(lanebook, peer, frames);
+            }
+            if words[0] == "time" {
+                time(words[1], &scenes, programs);
+            }
+        }
+        ["repeat", name, rounds] => {
+            let scenes = scenes::all(SEED);
+            let scene = scenes.iter().find(|scene| scene.name.starts_with(name)).expect("a scenario's name");
+            turn(portal, scene, rounds.parse().expect("a number of rounds"), &mut [0u8; LIST]);
+        }
+        ["frames", count] => {
+            let frames = traffic::frames(SEED, count.parse().expect("a number of frames"));
+            io::stdout().lock().write_all(&frames)?;
+        }
+        _ => {
+            eprintln!("usage: bench check | time REPORT | repeat SCENARIO ROUNDS | frames COUNT");
+            exit(2);
+        }
+    }
+    Ok(())
+}

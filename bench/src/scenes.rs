@@ -1,0 +1,280 @@
+//! The scenarios, made from a seed. Every book is made by planning and booking with the peer, so that it is well formed.
+
+use crate::barn::{push, Book, Map, Row, MOST_ON_PAGE};
+use crate::dice::Dice;
+use crate::plan::{chosen, Crossings, Windows};
+
+#[derive(Clone, Copy)]
+pub enum Call {
+    Plan { start: u32, destination: u32, second: u32 },
+    Page { size: u32, place: u32, entry: u32, ticket: u32 },
+}
+
+pub struct Scene {
+    pub name: String,
+    pub places: usize,
+    pub links: usize,
+    pub rows: usize,
+    pub map: Vec<u8>,
+    pub book: Vec<u8>,
+    pub calls: Vec<Call>,
+}
+
+/// The hours in which feed is carried.
+pub const OPEN: u32 = 21_600;
+pub const CLOSE: u32 = 36_000;
+const CALLS: usize = 24;
+
+/// A map in the making: packed places, and links.
+pub struct Plot {
+    pub places: Vec<u8>,
+    pub links: Vec<(u8, u8)>,
+}
+
+impl Plot {
+    fn place(&mut self, capacity: u32, duration: u32) {
+        push(&mut self.places, capacity, 1);
+        push(&mut self.places, duration, 2);
+    }
+
+    fn link(&mut self, from: usize, to: usize) {
+        let link = (from as u8, to as u8);
+        if from != to && !self.links.contains(&link) {
+            self.links.push(link);
+        }
+    }
+
+    /// Links between places near each other, both ways where there is room, up to the number asked.
+    fn link_up(&mut self, dice: &mut Dice, places: usize, links: usize) {
+        while self.links.len() < links {
+            let from = dice.below(places);
+            let to = (from + places + dice.below(17) - 8) % places;
+            self.link(from, to);
+            if self.links.len() < links {
+                self.link(to, from);
+            }
+        }
+    }
+
+    /// A barn of alleys: places joined to near ones, both ways, and more links up to the number asked. With `shut`, links
+    /// only lead out of the last place.
+    pub fn barn(dice: &mut Dice, places: usize, links: usize, shut: bool) -> Plot {
+        let mut plot = Plot { places: Vec::new(), links: Vec::new() };
+        for _ in 0..places {
+            plot.place(dice.pick(&[1, 1, 1, 2, 2, 4]), dice.among(10, 90) as u32);
+        }
+        let open = places - shut as usize;
+        for at in 1..places {
+            let near = at - dice.among(1, at.min(4));
+            plot.link(at, near);
+            if at < open {
+                plot.link(near, at);
+            }
+        }
+        plot.link_up(dice, open, links);
+        plot
+    }
+
+    /// The map of the rules' own example.
+    fn small() -> Plot {
+        let mut plot = Plot { places: Vec::new(), links: Vec::new() };
+        for (capacity, duration) in [(2, 10), (1, 20), (1, 30), (1, 10)] {
+            plot.place(capacity, duration);
+        }
+        for (from, to) in [(0, 1), (1, 3), (0, 2), (2, 3), (3, 1), (1, 0)] {
+            plot.link(from, to);
+        }
+        plot
+    }
+
+    fn packed_links(&self) -> Vec<u8> {
+        self.links.iter().flat_map(|&(from, to)| [from, to]).collect()
+    }
+}
+
+/// A map, its book so far, and the places that runs begin and end at.
+struct Yard {
+    dice: Dice,
+    plot: Plot,
+    map: Map,
+    book: Book,
+    next_ticket: u32,
+    ends: u32,
+}
+
+impl Yard {
+    fn new(dice: Dice, plot: Plot) -> Yard {
+        let map = Map::new(&plot.places, &plot.packed_links()).expect("a map that keeps its rules");
+        let book = Book::empty(map.size());
+        let ends = map.size() as u32;
+        Yard { dice, plot, map, book, next_ticket: 1, ends }
+    }
+
+    fn barn(seed: u64, places: usize, links: usize) -> Yard {
+        let mut dice = Dice::new(seed);
+        let plot = Plot::barn(&mut dice, places, links, false);
+        Yard::new(dice, plot)
+    }
+
+    fn plan(&self, start: u32, destination: u32, second: u32) -> Option<Vec<Row>> {
+        let windows = Windows::of(&self.map, &self.book).expect("a well-formed book");
+        let crossings = Crossings::of(&self.map, &self.book);
+        chosen(&self.map, &windows, &crossings, start as usize, destination as usize, second)
+    }
+
+    /// Books the run if it is permitted and the book has then at most `most` rows.
+    fn book(&mut self, start: u32, destination: u32, second: u32, most: usize) -> bool {
+        match self.plan(start, destination, second) {
+            Some(run) if self.book.rows.len() + run.len() <= most => {
+                self.book.add(&run, self.next_ticket);
+                self.next_ticket += 1;
+                true
+            }
+            _ => false,
+        }
+    }
+
+    fn some_second(&mut self) -> u32 {
+        self.dice.among(OPEN as usize, CLOSE as usize) as u32
+    }
+
+    fn some_end(&mut self) -> u32 {
+        self.dice.below(self.ends as usize) as u32
+    }
+
+    /// Books runs between random places until the book has so many rows; single stays make up the last few.
+    fn fill(&mut self, rows: usize) {
+        while self.book.rows.len() < rows {
+            let (start, destination, second) = (self.some_end(), self.some_end(), self.some_second());
+            if !self.book(start, destination, second, rows) {
+                self.book(start, start, second, rows);
+            }
+        }
+    }
+
+    fn scene(&self, name: &str, calls: Vec<Call>) -> Scene {
+        let (places, links, rows) = (self.map.size(), self.plot.links.len(), self.book.rows.len());
+        let mut map = Vec::new();
+        push(&mut map, places as u32, 2);
+        push(&mut map, links as u32, 2);
+        map.extend_from_slice(&self.plot.places);
+        map.extend_from_slice(&self.plot.packed_links());
+        let mut book = Vec::new();
+        push(&mut book, self.next_ticket, 3);
+        push(&mut book, rows as u32, 2);
+        for row in &self.book.rows {
+            book.extend_from_slice(&row.packed());
+        }
+        Scene { name: name.to_string(), places, links, rows, map, book, calls }
+    }
+
+    /// A request in the open hours that has a plan, between places as given or random ones.
+    fn request(&mut self, given_start: Option<u32>, given_destination: Option<u32>) -> Call {
+        loop {
+            let start = given_start.unwrap_or(self.some_end());
+            let destination = given_destination.unwrap_or(self.some_end());
+            let second = self.some_second();
+            if start != destination && self.plan(start, destination, second).is_some() {
+                return Call::Plan { start, destination, second };
+            }
+        }
+    }
+
+    fn requests(&mut self) -> Vec<Call> {
+        (0..CALLS).map(|_| self.request(None, None)).collect()
+    }
+
+    /// Pages of the largest size from cursors all over the book.
+    fn pages(&mut self) -> Vec<Call> {
+        let size = MOST_ON_PAGE as u32;
+        let mut calls = vec![Call::Page { size, place: 0, entry: 0, ticket: 0 }];
+        while calls.len() < CALLS {
+            let row = self.book.rows[self.dice.below(self.book.rows.len() - MOST_ON_PAGE)];
+            calls.push(Call::Page { size, place: row.place as u32, entry: row.entry, ticket: row.ticket });
+        }
+        calls
+    }
+}
+
+fn small() -> Scene {
+    let mut yard = Yard::new(Dice::new(1), Plot::small());
+    yard.book(0, 3, 0, 6);
+    yard.book(0, 3, 0, 6);
+    let calls = (0..CALLS as u32).map(|i| Call::Plan { start: 0, destination: 3, second: 10 + i }).collect();
+    yard.scene("small barn", calls)
+}
+
+fn usual(name: &str, seed: u64, places: usize, links: usize, rows: usize) -> Scene {
+    let mut yard = Yard::barn(seed, places, links);
+    yard.fill(rows);
+    let calls = yard.requests();
+    yard.scene(name, calls)
+}
+
+/// Two neighbours hold most rows: runs from one to the other and stays at each, all day. Half of the requests begin at the
+/// one or end at the other.
+fn hot(seed: u64) -> Scene {
+    let mut yard = Yard::barn(seed, 100, 240);
+    let (kitchen, gate) = (yard.plot.links[0].0 as u32, yard.plot.links[0].1 as u32);
+    while yard.book.rows.len() < 850 {
+        let start = yard.dice.pick(&[kitchen, gate]);
+        let destination = yard.dice.pick(&[kitchen, gate]);
+        let second = yard.dice.below(80_000) as u32;
+        yard.book(start, destination, second, 850);
+    }
+    yard.fill(1_000);
+    let calls = (0..CALLS)
+        .map(|i| match i % 4 {
+            0 => yard.request(Some(kitchen), None),
+            1 => yard.request(None, Some(gate)),
+            _ => yard.request(None, None),
+        })
+        .collect();
+    yard.scene("hot", calls)
+}
+
+/// The scenarios of one full barn: plans, pages, and requests for a place that no link leads to.
+fn full(seed: u64) -> [Scene; 3] {
+    let mut dice = Dice::new(seed);
+    let plot = Plot::barn(&mut dice, 256, 1_024, true);
+    let mut yard = Yard::new(dice, plot);
+    let shut = yard.ends - 1;
+    yard.ends = shut;
+    yard.fill(1_000);
+    let calls = yard.requests();
+    let plans = yard.scene("full", calls);
+    let calls = yard.pages();
+    let pages = yard.scene("page of 64, full book", calls);
+    let calls = (0..CALLS)
+        .map(|_| Call::Plan { start: yard.some_end(), destination: shut, second: yard.some_second() })
+        .collect();
+    [plans, pages, yard.scene("refusal 5, full book", calls)]
+}
+
+/// One map with more and more rows; the requests stay.
+fn growth(seed: u64) -> Vec<Scene> {
+    let mut yard = Yard::barn(seed, 100, 240);
+    let calls = yard.requests();
+    let mut scenes = Vec::new();
+    for rows in [0, 128, 256, 512, 1_000] {
+        yard.fill(rows);
+        scenes.push(yard.scene(&format!("growth, {} rows", rows), calls.clone()));
+    }
+    scenes
+}
+
+pub fn all(seed: u64) -> Vec<Scene> {
+    let [plans, pages, refusals] = full(seed + 3);
+    let mut scenes = vec![
+        small(),
+        usual("typical", seed + 1, 40, 90, 300),
+        usual("busy", seed + 2, 100, 240, 700),
+        plans,
+        hot(seed + 4),
+        usual("empty book", seed + 5, 256, 1_024, 0),
+        pages,
+        refusals,
+    ];
+    scenes.extend(growth(seed + 6));
+    scenes
+}
