@@ -137,14 +137,14 @@ fn book_sound(
             answer: Booked::Refused(Refusal::OffMap),
         };
     }
-    if s > 86400 {
+    if s > Map::DAY {
         return Booking {
             book: b,
             answer: Booked::Refused(Refusal::OffDay),
         };
     }
     let ticket = b.next_ticket;
-    if ticket >= 1000000 {
+    if ticket >= Book::TICKETS {
         return Booking {
             book: b,
             answer: Booked::Refused(Refusal::NoTickets),
@@ -183,7 +183,7 @@ fn book_sound(
             answer: Booked::Refused(Refusal::NoPlan),
         };
     }
-    if rows + c > 1024 {
+    if rows + c > Book::ROWS {
         return Booking {
             book: b,
             answer: Booked::Refused(Refusal::FullBook),

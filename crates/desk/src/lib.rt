@@ -1,4 +1,5 @@
 // The calls' answers over lent arrays: what is said once map and book are known as numbers.
+use rules::Map;
 use rules::Planned;
 use rules::Refusal;
 use rules::Trip;
@@ -49,7 +50,7 @@ fn plan_sound(
     if z >= n {
         return Planned::Refused(Refusal::OffMap);
     }
-    if s > 86400 {
+    if s > Map::DAY {
         return Planned::Refused(Refusal::OffDay);
     }
     let mut label = [86401u32; 1280];

@@ -31,14 +31,14 @@ fn page_sound(
     if size == 0 {
         return Paged::Refused(Refusal::BadSize);
     }
-    if size > 64 {
+    if size > Cursor::PAGE {
         return Paged::Refused(Refusal::BadSize);
     }
     let p = c.place as usize;
     if p >= n {
         return Paged::Refused(Refusal::BadCursor);
     }
-    if c.entry > 86400 {
+    if c.entry > Map::DAY {
         return Paged::Refused(Refusal::BadCursor);
     }
     if c.ticket >= 1000000 {
