@@ -1,9 +1,23 @@
 // Plan and page with their rows written to the caller's own list of row records.
+use rules::Book;
+use rules::Map;
+use rules::Planned;
 use rules::Row;
 ghost use mathlib.Core.Path.{_≡_};
 ghost use mathlib.Core.List.{_++_};
-ghost use Prim.Native.Nat.{_≤_};
+ghost use Prim.Native.Nat.{_+_, _*_, _≤_};
 ghost use lib.ListN.{length, take, drop};
+ghost use Rattle.rules.specs.Answer.{plannedCount, PlanRecords};
+ghost use Rattle.rules.specs.Portal.{rowIn};
+ghost use Rattle.records.specs.Reading.{RowsRead};
+ghost use Rattle.records.specs.Found.{Lent, PlanFound};
+
+// A plan's rows, none where it is refused, and the answer.
+pub struct FoundPlan {
+    pub rows: [Row; 1280],
+    pub count: usize,
+    pub answer: Planned,
+}
 
 // The first count rows over the first records of the caller's list.
 pub fn copy_rows(rows: [Row; 1280], count: usize, out: &mut [Row])
@@ -14,5 +28,80 @@ pub fn copy_rows(rows: [Row; 1280], count: usize, out: &mut [Row])
     while i < count {
         out[i] = rows[i];
         i += 1;
+    }
+}
+
+// The length of a list of packed rows with as many records as there is room for, at most 1,280.
+fn lent(room: usize) -> usize
+    ensures { λ n. ⌜ Lent room n ⌝ }
+{
+    if room < 1280 {
+        return 11 * room;
+    }
+    14080
+}
+
+// The row that stands at an index of the bytes.
+fn read_row(s: &[u8], at: usize) -> Row
+    requires { ⌜ at + 11 ≤ length (now s) ⌝ }
+    ensures { λ r. ⌜ r ≡ rowIn (now (s .entry)) at ⌝ }
+{
+    let entry = wire::three(s, at + 1);
+    let ticket = wire::three(s, at + 4);
+    let exit = wire::three(s, at + 7);
+    Row {
+        place: s[at],
+        entry: entry,
+        ticket: ticket,
+        exit: exit,
+        next: s[at + 10],
+    }
+}
+
+// The first count rows of a list of packed rows.
+fn read_rows(s: &[u8], count: usize) -> [Row; 1280]
+    requires { ⌜ count ≤ 1280 ⌝ }
+    requires { ⌜ 11 * count ≤ length (now s) ⌝ }
+    ensures { λ r. ⌜ RowsRead (now (s .entry)) count r ⌝ }
+{
+    let none = Row {
+        place: 0,
+        entry: 0,
+        ticket: 0,
+        exit: 0,
+        next: 0,
+    };
+    let mut rows = [none; 1280];
+    let mut j: usize = 0;
+    while j < count {
+        let r = read_row(s, 11 * j);
+        rows[j] = r;
+        j += 1;
+    }
+    rows
+}
+
+fn planned_count(p: Planned) -> usize
+    ensures { λ n. ⌜ n ≡ plannedCount p ⌝ }
+{
+    match p {
+        Planned::Done(t) => t.count,
+        Planned::Refused(r) => 0,
+    }
+}
+
+// The plan for a caller with room for so many records.
+pub fn find_plan(m: Map, b: Book, start: u32, destination: u32, second: u32, room: usize) -> FoundPlan
+    ensures { λ f. ⌜ PlanFound m b start destination second room f ⌝ }
+{
+    let mut list = [0u8; 14080];
+    let n = lent(room);
+    let a = planning::plan(m, b, start, destination, second, &mut list[..n]);
+    let count = planned_count(a);
+    let rows = read_rows(&list, count);
+    FoundPlan {
+        rows: rows,
+        count: count,
+        answer: a,
     }
 }
