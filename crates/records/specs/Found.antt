@@ -6,7 +6,8 @@ use mathlib.Core.Path.{_≡_, refl, sym, ap, subst, _∙_}
 use mathlib.Core.Logic.{_⊎_, inl, inr, ⊎-elim}
 use mathlib.Core.List.{List, [], _++_}
 use native.Mathlib.Omega.{arith}
-use lib.ListN.{length, take, drop}
+use lib.ListN.{length, take, drop, length-append, length-drop}
+use lib.Seq.{length-take-le}
 use Rattle.laws.specs.Order.{lt-or-ge}
 use Rattle.rules.specs.declared.Row.{Row}
 use Rattle.rules.specs.declared.Map.{Map}
@@ -45,6 +46,17 @@ lent-room {room} {n} L = ⊎-elim (λ (c : room < 1280). omega (arith, L .small 
 
 lent-enough : {room n : ℕ} (k : ℕ) → Lent room n → k ≤ 1280 → k ≤ room → k ≤ n / 11
 lent-enough {room} {n} k L h g = ⊎-elim (λ (c : room < 1280). omega (arith, L .small c)) (λ (c : 1280 ≤ room). omega (arith, L .large c)) (lt-or-ge room 1280)
+
+-- such a list is the front of one of 1,280 records, which is as long as it was once the front has been written
+module _ {room n : ℕ} (L : Lent room n) (z : List ℕ) (l : length z ≡ 14080) where
+  pub lent-length : n ≡ length (take n z)
+  lent-length = sym (length-take-le n z (omega (arith, lent-fits L)))
+
+  pub lent-back : (p : List ℕ) → length p ≡ length (take n z) → 14080 ≡ length (p ++ drop n z)
+  lent-back p e = omega (arith, lent-fits L, lent-length, length-append p (drop n z), length-drop n z)
+
+  lent-front : Lent room (length (take n z))
+  lent-front = subst (Lent room) lent-length L
 
 -- the first n rows over the caller's records
 abbrev pub put : ℕ → List Row → List Row → List Row
@@ -125,3 +137,15 @@ module _ {m : Map} {b : Book} {start dest s room : ℕ} {lent out : List ℕ} (r
     fits = omega (arith, plan-within h, lent-room L);
     says = plan-says;
   }
+
+-- the plan written to the front of a list of 1,280 records
+module _ {m : Map} {b : Book} {start dest s room n : ℕ} (L : Lent room n) (z : List ℕ) (l : length z ≡ 14080) {p : List ℕ} {a : Planned} {k : ℕ}
+    (h : PlanIs m b start dest s (take n z) p a) (e : k ≡ plannedCount a) where
+  pub plan-readable : length p ≡ length (take n z) → (k ≤ 1280) × (11 * k ≤ length (p ++ drop n z))
+  plan-readable q =
+      let w = plan-within h in
+      let f = lent-few (lent-front L z l) in
+      (omega (arith, w, f), omega (arith, w, f, lent-back L z l p q))
+
+  pub plan-front : {rows : List Row} → RowsRead (p ++ drop n z) k rows → PlanFound m b start dest s room (record { rows = rows; count = k; answer = a })
+  plan-front R = plan-found (drop n z) (lent-front L z l) h e R

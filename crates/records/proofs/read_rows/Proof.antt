@@ -37,10 +37,10 @@ loop-less : tie.Need-loop-less Inv-loop μ-loop
 loop-less c = search needs
 
 loop-again : tie.Need-loop-again Inv-loop μ-loop
-loop-again c = ?
+loop-again c = (omega arith, row-read (c .read-row .result) (c .before .before .loop .inv .1) (omega arith) (c .read-row .ensures))
 
 returns : tie.Need-returns Inv-loop μ-loop
-returns c = ?
+returns c = let e : c .before .loop .j ≡ c .before .before .before .args .count = omega arith in rw e at (c .before .loop .inv .1)
 
 pub read-rows-spec : {M : Type 1} → statement M
 read-rows-spec =
