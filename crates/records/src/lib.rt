@@ -105,3 +105,12 @@ pub fn find_plan(m: Map, b: Book, start: u32, destination: u32, second: u32, roo
         answer: a,
     }
 }
+
+// The earliest permitted plan, its rows written to the caller's own list of row records.
+pub fn plan_rows(m: Map, b: Book, start: u32, destination: u32, second: u32, out: &mut [Row]) -> Planned
+    ensures { λ r. ⌜ PlanRecords m b start destination second (now (out .entry)) (now (out .exit)) r ⌝ }
+{
+    let f = find_plan(m, b, start, destination, second, out.len());
+    copy_rows(f.rows, f.count, out);
+    f.answer
+}
