@@ -1,22 +1,32 @@
 // Plan and page with their rows written to the caller's own list of row records.
 use rules::Book;
+use rules::Cursor;
 use rules::Map;
+use rules::Paged;
 use rules::Planned;
 use rules::Row;
 ghost use mathlib.Core.Path.{_≡_};
 ghost use mathlib.Core.List.{_++_};
 ghost use Prim.Native.Nat.{_+_, _*_, _≤_};
 ghost use lib.ListN.{length, take, drop};
-ghost use Rattle.rules.specs.Answer.{plannedCount, PlanRecords};
+ghost use Rattle.rules.specs.Rows.{cursorKey};
+ghost use Rattle.rules.specs.Answer.{plannedCount, pagedCount, PlanRecords, PageRecords};
 ghost use Rattle.rules.specs.Portal.{rowIn};
 ghost use Rattle.records.specs.Reading.{RowsRead};
-ghost use Rattle.records.specs.Found.{Lent, PlanFound};
+ghost use Rattle.records.specs.Found.{Lent, PlanFound, PageFound};
 
 // A plan's rows, none where it is refused, and the answer.
 pub struct FoundPlan {
     pub rows: [Row; 1280],
     pub count: usize,
     pub answer: Planned,
+}
+
+// A page's rows, none where it is refused, and the answer.
+pub struct FoundPage {
+    pub rows: [Row; 1280],
+    pub count: usize,
+    pub answer: Paged,
 }
 
 // The first count rows over the first records of the caller's list.
@@ -111,6 +121,40 @@ pub fn plan_rows(m: Map, b: Book, start: u32, destination: u32, second: u32, out
     ensures { λ r. ⌜ PlanRecords m b start destination second (now (out .entry)) (now (out .exit)) r ⌝ }
 {
     let f = find_plan(m, b, start, destination, second, out.len());
+    copy_rows(f.rows, f.count, out);
+    f.answer
+}
+
+fn paged_count(p: Paged) -> usize
+    ensures { λ n. ⌜ n ≡ pagedCount p ⌝ }
+{
+    match p {
+        Paged::Done(s) => s.count,
+        Paged::Refused(r) => 0,
+    }
+}
+
+// The page for a caller with room for so many records.
+pub fn find_page(m: Map, b: Book, size: u32, c: Cursor, room: usize) -> FoundPage
+    ensures { λ f. ⌜ PageFound m b size (cursorKey c) room f ⌝ }
+{
+    let mut list = [0u8; 14080];
+    let n = lent(room);
+    let a = paging::page(m, b, size, c, &mut list[..n]);
+    let count = paged_count(a);
+    let rows = read_rows(&list, count);
+    FoundPage {
+        rows: rows,
+        count: count,
+        answer: a,
+    }
+}
+
+// The rows of the book after a cursor, written to the caller's own list of row records.
+pub fn page_rows(m: Map, b: Book, size: u32, c: Cursor, out: &mut [Row]) -> Paged
+    ensures { λ r. ⌜ PageRecords m b size (cursorKey c) (now (out .entry)) (now (out .exit)) r ⌝ }
+{
+    let f = find_page(m, b, size, c, out.len());
     copy_rows(f.rows, f.count, out);
     f.answer
 }
