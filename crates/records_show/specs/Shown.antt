@@ -13,6 +13,7 @@ use Rattle.laws.specs.Lists.{index-mem}
 use Rattle.rules.specs.declared.Row.{Row}
 use Rattle.rules.specs.declared.Planned.{Planned}
 use Rattle.rules.specs.declared.Paged.{Paged}
+use Rattle.rules.specs.declared.Map.{Map}
 use Rattle.rules.specs.declared.Book.{Book}
 use Rattle.rules.specs.Limits.{day}
 use Rattle.rules.specs.Map.{mapYard}
@@ -24,7 +25,7 @@ use Rattle.rules.specs.Answer.{Unless, Planning, PlanRefused, PlanAnswers, Plan
 use Rattle.keeping.specs.Books.{rows-of-book, good-book}
 use Rattle.cases.specs.Barn.{barn, barnMap, barn-good}
 use Rattle.cases.specs.Past.{rowsNow, bookNow, nextTicket}
-use Rattle.cases.specs.Case.{Case, Plans, Pages}
+use Rattle.cases.specs.Case.{Plans}
 use Rattle.cases.specs.Case.Case.{plans}
 use Rattle.cases.specs.Table.{both, table, table-holds, rows-both}
 
@@ -120,10 +121,14 @@ plan-on {n} {rows} {a} k h f = record {
     done : 3 ≤ n → Planning 0 (arrival way) 3 (over (take n marks) (runRows 0 way)) (take n rows) a
     done g = ⊎-elim (λ x. absurd (x .0 (omega (arith, long)))) (λ y. y .1) (plan-left h)
 
--- ---- page
+pub plan-shown : (m : Map) (b : Book) (was : List Row) {n : ℕ} {rows : List Row} {a : Planned} → m ≡ barnMap → b ≡ bothBook → was ≡ marks → n ≤ 8
+    → PlanRecords m b 0 3 10 (take n was) (take n rows) a × (drop n rows ≡ drop n was) → PlanOn n rows a
+plan-shown m b was {n} {rows} {a} em eb ew k h =
+    let one = subst (λ (m : Map). PlanRecords m b 0 3 10 (take n was) (take n rows) a) em (h .0) in
+    let two = subst (λ (b : Book). PlanRecords barnMap b 0 3 10 (take n was) (take n rows) a) eb one in
+    plan-on k (subst (λ (l : List Row). PlanRecords barnMap bothBook 0 3 10 (take n l) (take n rows) a) ew two) (h .1 ∙ ap (drop n) ew)
 
-both-paged : Pages both 2 firstKey (row 0 0 1 10 1 ∷ row 0 0 2 10 2 ∷ []) true
-both-paged = table-holds _ (index-mem (plans both 0 3 10 way 60) table 18 (omega arith))
+-- ---- page
 
 page-left : {was out : List Row} {r : Paged} → PageRecords barnMap bothBook 2 firstKey was out r
     → Unless (2 ≤ length was) (PageRefused 6 was out r) (PagingIs 0 2 true (record { place = 0; entry = 0; ticket = 2 }) (over was (row 0 0 1 10 1 ∷ row 0 0 2 10 2 ∷ [])) out r)
@@ -156,3 +161,11 @@ page-on {n} {rows} {a} k h f = record {
 
     done : 2 ≤ n → PagingIs 0 2 true (record { place = 0; entry = 0; ticket = 2 }) (over (take n marks) (row 0 0 1 10 1 ∷ row 0 0 2 10 2 ∷ [])) (take n rows) a
     done g = ⊎-elim (λ x. absurd (x .0 (omega (arith, long)))) (λ y. y .1) (page-left h)
+
+pub page-shown : (m : Map) (b : Book) (key : Key) (was : List Row) {n : ℕ} {rows : List Row} {a : Paged} → m ≡ barnMap → b ≡ bothBook → key ≡ firstKey → was ≡ marks → n ≤ 8
+    → PageRecords m b 2 key (take n was) (take n rows) a × (drop n rows ≡ drop n was) → PageOn n rows a
+page-shown m b key was {n} {rows} {a} em eb ek ew k h =
+    let one = subst (λ (m : Map). PageRecords m b 2 key (take n was) (take n rows) a) em (h .0) in
+    let two = subst (λ (b : Book). PageRecords barnMap b 2 key (take n was) (take n rows) a) eb one in
+    let three = subst (λ (key : Key). PageRecords barnMap bothBook 2 key (take n was) (take n rows) a) ek two in
+    page-on k (subst (λ (l : List Row). PageRecords barnMap bothBook 2 firstKey (take n l) (take n rows) a) ew three) (h .1 ∙ ap (drop n) ew)
