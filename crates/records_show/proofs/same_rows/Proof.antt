@@ -45,7 +45,7 @@ same-row-requires c κs = tt
 
 returns : tie.Need-returns Inv-loop μ-loop
 returns c =
-    (λ q. absurd (not-both q refl), λ e. absurd (not-both (c .before .same-row .ensures .1 (ap (λ (l : List Row). rowAt l (c .before .before .before .before .loop .i)) e)) (not-true _ (c .if1 .taken))))
+    (λ q. absurd (not-both q refl), λ e. absurd (not-both (c .before .same-row .ensures .1 (ap (λ (l : List Row). rowAt l (c .before .before .before .before .before .loop .i)) e)) (not-true _ (c .if1 .taken))))
 
 add-i : tie.Need-add-i Inv-loop μ-loop
 add-i c = search needs
