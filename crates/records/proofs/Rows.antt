@@ -1,5 +1,5 @@
 -- The rows of a struct's field are rows: a field that is an array of structs relates the list of their tuples, an array by value the list itself.
-use mathlib.Core.Path.{_≡_, sym, _∙_}
+use mathlib.Core.Path.{sym, _∙_}
 use mathlib.Core.List.{List, [], _∷_, map}
 use lib.ListN.{length-map}
 use mir.Val.{Val}

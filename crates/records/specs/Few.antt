@@ -101,9 +101,11 @@ module _ (Y : Yard) (rows : List Row) (rules : YardRules Y) where
       go zero e = (w .place, omega (arith, on-map w W), inl (e, refl, on-map w W))
       go (suc c) e =
           let o : load rows (w .place) (suc c) < Y .cap (w .place) = rw e at (open-at w W) in
-          let x = ends-at rows (w .place) c (omega (arith, W .left c (sym e), o)) in
-          (Y .places + x .row, omega (arith, x .within),
-          inr (record { row = x .row; within = x .within; place = x .place; exit = x .exit ∙ sym e }, refl, omega arith))
+          let x = ends-at rows (w .place) c (omega (arith, W .left c (sym e), o)) in (
+            Y .places + x .row,
+            omega (arith, x .within),
+            inr (record { row = x .row; within = x .within; place = x .place; exit = x .exit ∙ sym e }, refl, omega arith),
+          )
 
   -- windows with one mark have one place and one start
   mark-once : (w v : Span) (n : ℕ) → Marks w n → Marks v n → (w .place ≡ v .place) × (w .from ≡ v .from)

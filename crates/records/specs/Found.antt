@@ -1,9 +1,9 @@
 -- Rows found for a caller with room for so many records. The calls on packed rows are made with a list of as many records as there is room for, at
 -- most 1,280: a plan has no more stays than that and a page no more rows, so that the list is too short for the call exactly where the caller's is.
 -- The rows are read back from the bytes; over the caller's records they are what the call on records leaves.
-use Prim.Native.Nat.{ℕ, _+_, _*_, _/_, _≤_, _<_}
-use mathlib.Core.Path.{_≡_, refl, sym, ap, subst, _∙_}
-use mathlib.Core.Logic.{_⊎_, inl, inr, ⊎-elim}
+use Prim.Native.Nat.{ℕ, _*_, _/_, _≤_, _<_}
+use mathlib.Core.Path.{_≡_, sym, ap, subst, _∙_}
+use mathlib.Core.Logic.{inl, inr, ⊎-elim}
 use mathlib.Core.List.{List, _++_, List·Memᴰ, Memᴰ·append-left}
 use native.Mathlib.Nat.{min-le-left}
 use native.Mathlib.Omega.{arith}
@@ -16,7 +16,6 @@ use Rattle.rules.specs.declared.Map.{Map}
 use Rattle.rules.specs.declared.Book.{Book}
 use Rattle.rules.specs.declared.Planned.{Planned}
 use Rattle.rules.specs.declared.Paged.{Paged}
-use Rattle.rules.specs.Limits.{day}
 use Rattle.rules.specs.Map.{GoodMap, mapYard}
 use Rattle.rules.specs.Rows.{Key, rowKey, noRow, rowAt, lessb}
 use Rattle.rules.specs.Page.{after, pageRows, pageMore, lastKey}

@@ -1,7 +1,7 @@
 -- Rows read back from the bytes they were written to, one a turn: what the array holds after j turns. A row whose fields fit their bytes is read
 -- as it was, and the rows of a plan in the day and the rows of a good book fit.
 use Prim.Native.Nat.{ℕ, zero, suc, _+_, _*_, _/_, _%_, _≤_, _<_}
-use mathlib.Core.Path.{_≡_, refl, sym, ap, subst, _∙_}
+use mathlib.Core.Path.{_≡_, sym, ap, _∙_}
 use mathlib.Core.Logic.{⊎-elim}
 use mathlib.Core.List.{List, [], _∷_, _++_, append-assoc}
 use native.Mathlib.Omega.{arith}

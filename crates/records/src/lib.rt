@@ -101,7 +101,14 @@ fn planned_count(p: Planned) -> usize
 }
 
 // The plan for a caller with room for so many records.
-pub fn find_plan(m: Map, b: Book, start: u32, destination: u32, second: u32, room: usize) -> FoundPlan
+pub fn find_plan(
+    m: Map,
+    b: Book,
+    start: u32,
+    destination: u32,
+    second: u32,
+    room: usize,
+) -> FoundPlan
     ensures { λ f. ⌜ PlanFound m b start destination second room f ⌝ }
 {
     let mut list = [0u8; 14080];
@@ -117,7 +124,14 @@ pub fn find_plan(m: Map, b: Book, start: u32, destination: u32, second: u32, roo
 }
 
 // The earliest permitted plan, its rows written to the caller's own list of row records.
-pub fn plan_rows(m: Map, b: Book, start: u32, destination: u32, second: u32, out: &mut [Row]) -> Planned
+pub fn plan_rows(
+    m: Map,
+    b: Book,
+    start: u32,
+    destination: u32,
+    second: u32,
+    out: &mut [Row],
+) -> Planned
     ensures { λ r. ⌜ PlanRecords m b start destination second (now (out .entry)) (now (out .exit)) r ⌝ }
 {
     let f = find_plan(m, b, start, destination, second, out.len());

@@ -1,10 +1,10 @@
--- What plan and page leave in the first n of eight records, on the small barn beside tickets 1 and 2. The lines of the table of cases say which plan
--- is chosen and which rows the page has; a list that is too short is refused with 6 and stays as it was, and in one that is long enough the
--- records past the rows keep their values.
-use Prim.Native.Nat.{ℕ, _+_, _≤_, _<_}
-use mathlib.Core.Path.{_≡_, refl, sym, ap, subst, _∙_}
+-- What plan and page leave in the first n of eight records, on the small barn beside tickets 1 and 2. The table of cases says which plan is chosen,
+-- and the page's rows are computed; a list that is too short is refused with 6 and stays as it was, and in one that is long enough the records
+-- past the rows keep their values.
+use Prim.Native.Nat.{ℕ, _≤_, _<_}
+use mathlib.Core.Path.{_≡_, sym, ap, subst, _∙_}
 use mathlib.Core.Logic.{inl, inr, ⊎-elim}
-use mathlib.Core.Bool.{Bool, true}
+use mathlib.Core.Bool.{true}
 use mathlib.Core.List.{List, [], _∷_, _++_, append-assoc}
 use native.Mathlib.Omega.{arith}
 use lib.ListN.{length, take, drop, replicate, take-append-drop}
@@ -15,16 +15,14 @@ use Rattle.rules.specs.declared.Planned.{Planned}
 use Rattle.rules.specs.declared.Paged.{Paged}
 use Rattle.rules.specs.declared.Map.{Map}
 use Rattle.rules.specs.declared.Book.{Book}
-use Rattle.rules.specs.Limits.{day}
 use Rattle.rules.specs.Map.{mapYard}
 use Rattle.rules.specs.Rows.{Key, firstKey, lessb}
 use Rattle.rules.specs.Plan.{Stay, arrival, runRows}
-use Rattle.rules.specs.Page.{pageRows, pageMore, lastKey}
-use Rattle.rules.specs.Book.{GoodBook, rowsOf, bookOf}
-use Rattle.rules.specs.Answer.{Unless, Planning, PlanRefused, PlanAnswers, PlanRecords, plannedNumber, plannedArrival, plannedCount, PagingIs, PageRefused, PageAnswers, PageRecords, pagedNumber, pagedCount, pagedMore, CursorFits, over}
+use Rattle.rules.specs.Book.{GoodBook, bookOf}
+use Rattle.rules.specs.Answer.{Unless, Planning, PlanRefused, PlanAnswers, PlanRecords, plannedNumber, plannedArrival, plannedCount, PagingIs, PageRefused, PageRecords, pagedNumber, pagedCount, pagedMore, over}
 use Rattle.keeping.specs.Books.{rows-of-book, good-book}
 use Rattle.cases.specs.Barn.{barn, barnMap, barn-good}
-use Rattle.cases.specs.Past.{rowsNow, bookNow, nextTicket}
+use Rattle.cases.specs.Past.{rowsNow, bookNow}
 use Rattle.cases.specs.Case.{Plans}
 use Rattle.cases.specs.Case.Case.{plans}
 use Rattle.cases.specs.Table.{both, table, table-holds, rows-both}

@@ -65,12 +65,27 @@ fn lend_page(m: Map, b: Book, size: u32, c: Cursor, rows: [Row; 8], n: usize) ->
 fn barn() -> Map
     ensures { λ r. ⌜ r ≡ barnMap ⌝ }
 {
-    let no_place = Place { capacity: 0, duration: 0 };
+    let no_place = Place {
+        capacity: 0,
+        duration: 0,
+    };
     let mut places = [no_place; 256];
-    places[0] = Place { capacity: 2, duration: 10 };
-    places[1] = Place { capacity: 1, duration: 20 };
-    places[2] = Place { capacity: 1, duration: 30 };
-    places[3] = Place { capacity: 1, duration: 10 };
+    places[0] = Place {
+        capacity: 2,
+        duration: 10,
+    };
+    places[1] = Place {
+        capacity: 1,
+        duration: 20,
+    };
+    places[2] = Place {
+        capacity: 1,
+        duration: 30,
+    };
+    places[3] = Place {
+        capacity: 1,
+        duration: 10,
+    };
     let no_link = Link { from: 0, to: 0 };
     let mut links = [no_link; 1024];
     links[0] = Link { from: 0, to: 1 };
@@ -91,14 +106,56 @@ fn barn() -> Map
 fn booked() -> Book
     ensures { λ r. ⌜ r ≡ bothBook ⌝ }
 {
-    let none = Row { place: 0, entry: 0, ticket: 0, exit: 0, next: 0 };
+    let none = Row {
+        place: 0,
+        entry: 0,
+        ticket: 0,
+        exit: 0,
+        next: 0,
+    };
     let mut rows = [none; 1024];
-    rows[0] = Row { place: 0, entry: 0, ticket: 1, exit: 10, next: 1 };
-    rows[1] = Row { place: 0, entry: 0, ticket: 2, exit: 10, next: 2 };
-    rows[2] = Row { place: 1, entry: 10, ticket: 1, exit: 30, next: 3 };
-    rows[3] = Row { place: 2, entry: 10, ticket: 2, exit: 40, next: 3 };
-    rows[4] = Row { place: 3, entry: 30, ticket: 1, exit: 40, next: 3 };
-    rows[5] = Row { place: 3, entry: 40, ticket: 2, exit: 50, next: 3 };
+    rows[0] = Row {
+        place: 0,
+        entry: 0,
+        ticket: 1,
+        exit: 10,
+        next: 1,
+    };
+    rows[1] = Row {
+        place: 0,
+        entry: 0,
+        ticket: 2,
+        exit: 10,
+        next: 2,
+    };
+    rows[2] = Row {
+        place: 1,
+        entry: 10,
+        ticket: 1,
+        exit: 30,
+        next: 3,
+    };
+    rows[3] = Row {
+        place: 2,
+        entry: 10,
+        ticket: 2,
+        exit: 40,
+        next: 3,
+    };
+    rows[4] = Row {
+        place: 3,
+        entry: 30,
+        ticket: 1,
+        exit: 40,
+        next: 3,
+    };
+    rows[5] = Row {
+        place: 3,
+        entry: 40,
+        ticket: 2,
+        exit: 50,
+        next: 3,
+    };
     Book {
         rows: rows,
         count: 6,
@@ -110,7 +167,13 @@ fn booked() -> Book
 fn marked() -> [Row; 8]
     ensures { λ r. ⌜ r ≡ marks ⌝ }
 {
-    let mark = Row { place: 9, entry: 9, ticket: 9, exit: 9, next: 9 };
+    let mark = Row {
+        place: 9,
+        entry: 9,
+        ticket: 9,
+        exit: 9,
+        next: 9,
+    };
     [mark; 8]
 }
 
@@ -119,9 +182,27 @@ fn planned_rows() -> [Row; 8]
     ensures { λ r. ⌜ r ≡ planned ⌝ }
 {
     let mut rows = marked();
-    rows[0] = Row { place: 0, entry: 10, ticket: 0, exit: 30, next: 1 };
-    rows[1] = Row { place: 1, entry: 30, ticket: 0, exit: 50, next: 3 };
-    rows[2] = Row { place: 3, entry: 50, ticket: 0, exit: 60, next: 3 };
+    rows[0] = Row {
+        place: 0,
+        entry: 10,
+        ticket: 0,
+        exit: 30,
+        next: 1,
+    };
+    rows[1] = Row {
+        place: 1,
+        entry: 30,
+        ticket: 0,
+        exit: 50,
+        next: 3,
+    };
+    rows[2] = Row {
+        place: 3,
+        entry: 50,
+        ticket: 0,
+        exit: 60,
+        next: 3,
+    };
     rows
 }
 
@@ -130,8 +211,20 @@ fn paged_rows() -> [Row; 8]
     ensures { λ r. ⌜ r ≡ paged ⌝ }
 {
     let mut rows = marked();
-    rows[0] = Row { place: 0, entry: 0, ticket: 1, exit: 10, next: 1 };
-    rows[1] = Row { place: 0, entry: 0, ticket: 2, exit: 10, next: 2 };
+    rows[0] = Row {
+        place: 0,
+        entry: 0,
+        ticket: 1,
+        exit: 10,
+        next: 1,
+    };
+    rows[1] = Row {
+        place: 0,
+        entry: 0,
+        ticket: 2,
+        exit: 10,
+        next: 2,
+    };
     rows
 }
 

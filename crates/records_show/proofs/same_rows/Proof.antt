@@ -1,5 +1,5 @@
 -- `records_show::same_rows` meets its contract: a turn goes on only past records that are equal.
-use Prim.Native.Nat.{_-_, _≤_}
+use Prim.Native.Nat.{_-_}
 use mathlib.Core.Path.{_≡_, refl, ap}
 use mathlib.Core.List.{List}
 use native.Mathlib.Omega.{arith}
