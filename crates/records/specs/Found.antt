@@ -1,0 +1,239 @@
+-- Rows found for a caller with room for so many records. The calls on packed rows are made with a list of as many records as there is room for, at
+-- most 1,280: a plan has no more stays than that and a page no more rows, so that the list is too short for the call exactly where the caller's is.
+-- The rows are read back from the bytes; over the caller's records they are what the call on records leaves.
+use Prim.Native.Nat.{ℕ, _*_, _/_, _≤_, _<_}
+use mathlib.Core.Path.{_≡_, sym, ap, subst, _∙_}
+use mathlib.Core.Logic.{inl, inr, ⊎-elim}
+use mathlib.Core.List.{List, _++_, List·Memᴰ, Memᴰ·append-left}
+use native.Mathlib.Nat.{min-le-left}
+use native.Mathlib.Omega.{arith}
+use lib.ListN.{length, take, drop, length-append, length-drop, length-take, take-append-drop}
+use lib.Seq.{length-take-le}
+use Rattle.laws.specs.Order.{lt-or-ge}
+use Rattle.laws.specs.Lists.{index-mem}
+use Rattle.rules.specs.declared.Row.{Row}
+use Rattle.rules.specs.declared.Map.{Map}
+use Rattle.rules.specs.declared.Book.{Book}
+use Rattle.rules.specs.declared.Planned.{Planned}
+use Rattle.rules.specs.declared.Paged.{Paged}
+use Rattle.rules.specs.Map.{GoodMap, mapYard}
+use Rattle.rules.specs.Rows.{Key, rowKey, noRow, rowAt, lessb}
+use Rattle.rules.specs.Page.{after, pageRows, pageMore, lastKey}
+use Rattle.rules.specs.Plan.{Stay, stayAt, Permitted, runRows, arrival}
+use Rattle.rules.specs.Book.{GoodBook, rowsOf}
+use Rattle.rules.specs.Chosen.{Chosen}
+use Rattle.rules.specs.Answer.{Unless, Planning, PlanIs, PlanRecords, PlanRefused, PlanDone, plannedCount, PagingIs, PageIs, PageRecords, PageRefused, PageDone, pagedCount, records}
+use Rattle.lanes.specs.Yards.{YardRules, yard-rules}
+use Rattle.lanes.specs.Windows.{ends}
+use Rattle.lanes.specs.Chosen.{chosen-best}
+use Rattle.keeping.specs.Runs.{run-length}
+use Rattle.keeping.specs.Changes.{mem-keep}
+use Rattle.keeping.specs.Keeping.{row-ranges}
+use Rattle.keeping.specs.Calls.{unless}
+use Rattle.records.specs.declared.FoundPlan.{FoundPlan}
+use Rattle.records.specs.declared.FoundPage.{FoundPage}
+use Rattle.records.specs.Few.{chosen-few}
+use Rattle.records.specs.Reading.{RowsRead, RowFits, read-all, StayFits, run-fits}
+
+-- the length of the list of packed rows that is lent for so much room
+pub record Lent (room n : ℕ) : Type 0 where
+  pub small : room < 1280 → n ≡ 11 * room
+  pub large : 1280 ≤ room → n ≡ 14080
+
+pub lent-fits : {room n : ℕ} → Lent room n → n ≤ 14080
+lent-fits {room} {n} L = ⊎-elim (λ (c : room < 1280). omega (arith, L .small c)) (λ (c : 1280 ≤ room). omega (arith, L .large c)) (lt-or-ge room 1280)
+
+-- the records of such a list are the room, but no more than 1,280
+lent-few : {room n : ℕ} → Lent room n → n / 11 ≤ 1280
+lent-few {room} {n} L = omega (arith, lent-fits L)
+
+lent-room : {room n : ℕ} → Lent room n → n / 11 ≤ room
+lent-room {room} {n} L = ⊎-elim (λ (c : room < 1280). omega (arith, L .small c)) (λ (c : 1280 ≤ room). omega (arith, L .large c)) (lt-or-ge room 1280)
+
+lent-enough : {room n : ℕ} (k : ℕ) → Lent room n → k ≤ 1280 → k ≤ room → k ≤ n / 11
+lent-enough {room} {n} k L h g = ⊎-elim (λ (c : room < 1280). omega (arith, L .small c)) (λ (c : 1280 ≤ room). omega (arith, L .large c)) (lt-or-ge room 1280)
+
+-- such a list is the front of one of 1,280 records, which is as long as it was once the front has been written
+module _ {room n : ℕ} (L : Lent room n) (z : List ℕ) (l : length z ≡ 14080) where
+  pub lent-length : n ≡ length (take n z)
+  lent-length = sym (length-take-le n z (omega (arith, lent-fits L)))
+
+  pub lent-back : (p : List ℕ) → length p ≡ length (take n z) → 14080 ≡ length (p ++ drop n z)
+  lent-back p e = omega (arith, lent-fits L, lent-length, length-append p (drop n z), length-drop n z)
+
+  lent-front : Lent room (length (take n z))
+  lent-front = subst (Lent room) lent-length L
+
+-- the first n rows over the caller's records
+abbrev pub put : ℕ → List Row → List Row → List Row
+put n rows was = take n rows ++ drop n was
+
+put-none : {n : ℕ} (rows was : List Row) → n ≡ 0 → put n rows was ≡ was
+put-none rows was e = rw e
+
+put-all : {n : ℕ} (got rows was : List Row) → n ≡ length rows → take n got ≡ rows → put n got was ≡ rows ++ drop (length rows) was
+put-all {n} got rows was e f = ap (λ (l : List Row). l ++ drop n was) f ∙ ap (λ (k : ℕ). rows ++ drop k was) e
+
+-- one answer for another, in the order of the refusals
+instead : {ok bad bad′ rest rest′ : Type 0} → (bad → bad′) → (ok → rest → rest′) → Unless ok bad rest → Unless ok bad′ rest′
+instead f g (inl x) = inl (x .0, f (x .1))
+instead f g (inr y) = inr (y .0, g (y .0) (y .1))
+
+-- ---- plan
+
+-- what is found for a plan: over any list with this room it is the answer of the call on records
+pub record PlanFound (m : Map) (b : Book) (start dest s room : ℕ) (f : FoundPlan) : Type 0 where
+  pub few : f .count ≤ 1280
+  pub fits : f .count ≤ room
+  pub says : (was : List Row) → length was ≡ room → PlanRecords m b start dest s was (put (f .count) (f .rows) was) (f .answer)
+
+-- no more rows are counted than the list has records
+pub plan-within : {m : Map} {b : Book} {start dest s : ℕ} {lent out : List ℕ} {a : Planned} → PlanIs m b start dest s lent out a → plannedCount a ≤ records lent
+plan-within {m} {b} {start} {dest} {s} {lent} {out} {a} h =
+    unless refused (λ M. unless refused (λ G. unless refused (λ on. unless refused (λ d. unless refused (λ some x.
+    unless refused (λ k D. omega (arith, D .counts)) (x .2)))))) h
+  where
+    refused : {n : ℕ} → PlanRefused n lent out a → plannedCount a ≤ records lent
+    refused x = omega (arith, x .counts)
+
+-- the stays of a plan of the day fit
+stays-fit : (m : Map) (b : Book) {start dest s : ℕ} {plan : List Stay} → GoodMap m → Permitted (mapYard m) (rowsOf b) start dest s plan → (i : ℕ) → i < length plan → StayFits (stayAt plan i)
+stays-fit m b {plan = plan} M P i h = record {
+  place = omega (arith, P .run .on-map i h, M .rules .few);
+  entry = omega (arith, ends P i h, P .run .lasts i h);
+  exit = omega (arith, ends P i h);
+}
+
+module _ {m : Map} {b : Book} {start dest s room : ℕ} {lent out : List ℕ} (rest : List ℕ) {a : Planned} {n : ℕ} {rows : List Row} (L : Lent room (length lent))
+    (h : PlanIs m b start dest s lent out a) (e : n ≡ plannedCount a) (R : RowsRead (out ++ rest) n rows) where
+  module _ (was : List Row) (l : length was ≡ room) where
+    refused : {k : ℕ} → PlanRefused k lent out a → PlanRefused k was (put n rows was) a
+    refused x = record { code = x .code; arrives = x .arrives; counts = x .counts; holds = put-none rows was (e ∙ x .counts) }
+
+    module _ (M : GoodMap m) (G : GoodBook (mapYard m) b) (on : dest < mapYard m .places) {plan : List Stay} (C : Chosen (mapYard m) (rowsOf b) start dest s plan) where
+      rules : YardRules (mapYard m)
+      rules = yard-rules (M .rules)
+
+      abbrev Done : Type 0
+      Done = Planning 0 (arrival plan) (length plan) (runRows 0 plan ++ drop (length (runRows 0 plan)) was) (put n rows was) a
+
+      done : length plan ≤ records lent → PlanDone plan lent out a → Done
+      done k D =
+          let P = (chosen-best (mapYard m) (rowsOf b) start dest s (rules .from-on) on (G .formed .room) C) .0 in
+          let c : n ≡ length (runRows 0 plan) = e ∙ D .counts ∙ sym (run-length 0 plan) in
+          let r : take n rows ≡ runRows 0 plan =
+          read-all (runRows 0 plan) lent rest (run-fits 0 (omega arith) plan (stays-fit m b M P)) c (omega (arith, lent-few L, D .counts))
+          (subst (λ (o : List ℕ). RowsRead (o ++ rest) n rows) (D .holds) R) in
+          record { code = D .code; arrives = D .arrives; counts = D .counts; holds = put-all rows (runRows 0 plan) was c r }
+
+      listed : Unless (length plan ≤ records lent) (PlanRefused 6 lent out a) (PlanDone plan lent out a) → Unless (length plan ≤ length was) (PlanRefused 6 was (put n rows was) a) Done
+      listed (inl x) =
+          let f = chosen-few (mapYard m) (rowsOf b) rules start dest s C in
+          inl (λ k. x .0 (lent-enough (length plan) L (omega (arith, f, M .rules .few, G .formed .few)) (omega arith)), refused (x .1))
+      listed (inr y) = inr (omega (arith, y .0, lent-room L), done (y .0) (y .1))
+
+    plan-says : PlanRecords m b start dest s was (put n rows was) a
+    plan-says =
+        instead refused (λ M. instead refused (λ G. instead refused (λ on. instead refused (λ d. instead refused (λ some x.
+        (x .0, x .1, listed M G (on .1) (x .1) (x .2))))))) h
+
+  pub plan-found : PlanFound m b start dest s room (record { rows = rows; count = n; answer = a })
+  plan-found = record {
+    few = omega (arith, plan-within h, lent-few L);
+    fits = omega (arith, plan-within h, lent-room L);
+    says = plan-says;
+  }
+
+-- the plan written to the front of a list of 1,280 records
+module _ {m : Map} {b : Book} {start dest s room n : ℕ} (L : Lent room n) (z : List ℕ) (l : length z ≡ 14080) {p : List ℕ} {a : Planned} {k : ℕ}
+    (h : PlanIs m b start dest s (take n z) p a) (e : k ≡ plannedCount a) where
+  pub plan-readable : length p ≡ length (take n z) → (k ≤ 1280) × (11 * k ≤ length (p ++ drop n z))
+  plan-readable q =
+      let w = plan-within h in
+      let f = lent-few (lent-front L z l) in
+      (omega (arith, w, f), omega (arith, w, f, lent-back L z l p q))
+
+  pub plan-front : {rows : List Row} → RowsRead (p ++ drop n z) k rows → PlanFound m b start dest s room (record { rows = rows; count = k; answer = a })
+  plan-front R = plan-found (drop n z) (lent-front L z l) h e R
+
+-- ---- page
+
+-- what is found for a page: over any list with this room it is the answer of the call on records
+pub record PageFound (m : Map) (b : Book) (size : ℕ) (k : Key) (room : ℕ) (f : FoundPage) : Type 0 where
+  pub few : f .count ≤ 1280
+  pub fits : f .count ≤ room
+  pub says : (was : List Row) → length was ≡ room → PageRecords m b size k was (put (f .count) (f .rows) was) (f .answer)
+
+page-few : (size : ℕ) (k : Key) (rows : List Row) → length (pageRows size k rows) ≤ size
+page-few size k rows = omega (arith, length-take size (after k rows), min-le-left size (length (after k rows)))
+
+-- no more rows are counted than the list has records
+pub page-within : {m : Map} {b : Book} {size : ℕ} {k : Key} {lent out : List ℕ} {a : Paged} → PageIs m b size k lent out a → pagedCount a ≤ records lent
+page-within {m} {b} {size} {k} {lent} {out} {a} h =
+    unless refused (λ M. unless refused (λ G. unless refused (λ s. unless refused (λ c. unless refused (λ r D.
+    omega (arith, D .counts, page-few size k (rowsOf b))))))) h
+  where
+    refused : {n : ℕ} → PageRefused n lent out a → pagedCount a ≤ records lent
+    refused x = omega (arith, x .counts)
+
+-- a page's rows stand in the book, and a good book's rows fit
+page-fits : {m : Map} {b : Book} (size : ℕ) (k : Key) → GoodMap m → GoodBook (mapYard m) b → (j : ℕ) → j < length (pageRows size k (rowsOf b)) → RowFits (rowAt (pageRows size k (rowsOf b)) j)
+page-fits {m} {b} size k M G j h =
+    let page : List Row = pageRows size k (rowsOf b) in
+    let r : Row = rowAt page j in
+    let n : List·Memᴰ r (after k (rowsOf b)) = rw (take-append-drop size (after k (rowsOf b))) at (Memᴰ·append-left (drop size (after k (rowsOf b))) (index-mem noRow page j h)) in
+    let R = row-ranges (G .formed) r ((mem-keep (λ x. lessb k (rowKey x)) r (rowsOf b) n) .0) in
+    record {
+      place = omega (arith, R .place, M .rules .few);
+      entry = omega (arith, R .entry);
+      ticket = omega (arith, R .ticket-to, G .formed .ticket-to);
+      exit = omega (arith, R .exit);
+      next = omega (arith, R .next, M .rules .few);
+    }
+
+module _ {m : Map} {b : Book} {size room : ℕ} {k : Key} {lent out : List ℕ} (rest : List ℕ) {a : Paged} {n : ℕ} {rows : List Row} (L : Lent room (length lent))
+    (h : PageIs m b size k lent out a) (e : n ≡ pagedCount a) (R : RowsRead (out ++ rest) n rows) where
+  module _ (was : List Row) (l : length was ≡ room) where
+    not-shown : {i : ℕ} → PageRefused i lent out a → PageRefused i was (put n rows was) a
+    not-shown x = record { code = x .code; counts = x .counts; says = x .says; hands = x .hands; holds = put-none rows was (e ∙ x .counts) }
+
+    abbrev page : List Row
+    page = pageRows size k (rowsOf b)
+
+    abbrev Shows : Type 0
+    Shows = PagingIs 0 (length page) (pageMore size k (rowsOf b)) (lastKey k page) (page ++ drop (length page) was) (put n rows was) a
+
+    module _ (M : GoodMap m) (G : GoodBook (mapYard m) b) (s : size ≤ 64) where
+      shows : size ≤ records lent → PageDone (rowsOf b) size k lent out a → Shows
+      shows q D =
+          let c : n ≡ length page = e ∙ D .counts in
+          let r : take n rows ≡ page =
+          read-all page lent rest (page-fits size k M G) c (omega (arith, lent-few L, page-few size k (rowsOf b)))
+          (subst (λ (o : List ℕ). RowsRead (o ++ rest) n rows) (D .holds) R) in
+          record { code = D .code; counts = D .counts; says = D .says; hands = D .hands; holds = put-all rows page was c r }
+
+      paged : Unless (size ≤ records lent) (PageRefused 6 lent out a) (PageDone (rowsOf b) size k lent out a) → Unless (size ≤ length was) (PageRefused 6 was (put n rows was) a) Shows
+      paged (inl x) = inl (λ q. x .0 (lent-enough size L (omega arith) (omega arith)), not-shown (x .1))
+      paged (inr y) = inr (omega (arith, y .0, lent-room L), shows (y .0) (y .1))
+
+    page-says : PageRecords m b size k was (put n rows was) a
+    page-says = instead not-shown (λ M. instead not-shown (λ G. instead not-shown (λ s. instead not-shown (λ c. paged M G (s .1))))) h
+
+  pub page-found : PageFound m b size k room (record { rows = rows; count = n; answer = a })
+  page-found = record {
+    few = omega (arith, page-within h, lent-few L);
+    fits = omega (arith, page-within h, lent-room L);
+    says = page-says;
+  }
+
+-- the page written to the front of a list of 1,280 records
+module _ {m : Map} {b : Book} {size room n : ℕ} {key : Key} (L : Lent room n) (z : List ℕ) (l : length z ≡ 14080) {p : List ℕ} {a : Paged} {k : ℕ}
+    (h : PageIs m b size key (take n z) p a) (e : k ≡ pagedCount a) where
+  pub page-readable : length p ≡ length (take n z) → (k ≤ 1280) × (11 * k ≤ length (p ++ drop n z))
+  page-readable q =
+      let w = page-within h in
+      let f = lent-few (lent-front L z l) in
+      (omega (arith, w, f), omega (arith, w, f, lent-back L z l p q))
+
+  pub page-front : {rows : List Row} → RowsRead (p ++ drop n z) k rows → PageFound m b size key room (record { rows = rows; count = k; answer = a })
+  page-front R = page-found (drop n z) (lent-front L z l) h e R

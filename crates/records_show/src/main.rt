@@ -1,0 +1,425 @@
+// Plan and page on the small barn, with their rows written to lists of row records of different lengths: none, too short, exact and longer.
+use rules::Book;
+use rules::Cursor;
+use rules::Link;
+use rules::Map;
+use rules::Paged;
+use rules::Place;
+use rules::Planned;
+use rules::Refusal;
+use rules::Row;
+ghost use mathlib.Core.Path.{_≡_};
+ghost use mathlib.Core.Bool.{true};
+ghost use Prim.Native.Nat.{_≤_};
+ghost use lib.ListN.{take, drop};
+ghost use Rattle.rules.specs.Rows.{cursorKey};
+ghost use Rattle.rules.specs.Answer.{PlanRecords, PageRecords, number, plannedNumber, plannedArrival, plannedCount, pagedNumber, pagedCount, pagedMore};
+ghost use Rattle.cases.specs.Barn.{barnMap};
+ghost use Rattle.records_show.specs.Shown.{marks, planned, paged, bothBook, PlanOn, PageOn};
+
+struct PlanShown {
+    rows: [Row; 8],
+    answer: Planned,
+}
+
+struct PageShown {
+    rows: [Row; 8],
+    answer: Paged,
+}
+
+// The first n of eight records are lent to the plan.
+fn lend_plan(
+    m: Map,
+    b: Book,
+    start: u32,
+    destination: u32,
+    second: u32,
+    rows: [Row; 8],
+    n: usize,
+) -> PlanShown
+    requires { ⌜ n ≤ 8 ⌝ }
+    ensures { λ r. ⌜ PlanRecords m b start destination second (take n rows) (take n (r .rows)) (r .answer) × (drop n (r .rows) ≡ drop n rows) ⌝ }
+{
+    let mut list = rows;
+    let a = records::plan_rows(m, b, start, destination, second, &mut list[..n]);
+    PlanShown {
+        rows: list,
+        answer: a,
+    }
+}
+
+// The first n of eight records are lent to the page.
+fn lend_page(m: Map, b: Book, size: u32, c: Cursor, rows: [Row; 8], n: usize) -> PageShown
+    requires { ⌜ n ≤ 8 ⌝ }
+    ensures { λ r. ⌜ PageRecords m b size (cursorKey c) (take n rows) (take n (r .rows)) (r .answer) × (drop n (r .rows) ≡ drop n rows) ⌝ }
+{
+    let mut list = rows;
+    let a = records::page_rows(m, b, size, c, &mut list[..n]);
+    PageShown {
+        rows: list,
+        answer: a,
+    }
+}
+
+// "place 0 capacity 2 duration 10; 1, 2, 3 capacity 1, durations 20, 30, 10", with the links 0 to 1, 1 to 3, 0 to 2, 2 to 3, 3 to 1, 1 to 0.
+fn barn() -> Map
+    ensures { λ r. ⌜ r ≡ barnMap ⌝ }
+{
+    let no_place = Place {
+        capacity: 0,
+        duration: 0,
+    };
+    let mut places = [no_place; 256];
+    places[0] = Place {
+        capacity: 2,
+        duration: 10,
+    };
+    places[1] = Place {
+        capacity: 1,
+        duration: 20,
+    };
+    places[2] = Place {
+        capacity: 1,
+        duration: 30,
+    };
+    places[3] = Place {
+        capacity: 1,
+        duration: 10,
+    };
+    let no_link = Link { from: 0, to: 0 };
+    let mut links = [no_link; 1024];
+    links[0] = Link { from: 0, to: 1 };
+    links[1] = Link { from: 1, to: 3 };
+    links[2] = Link { from: 0, to: 2 };
+    links[3] = Link { from: 2, to: 3 };
+    links[4] = Link { from: 3, to: 1 };
+    links[5] = Link { from: 1, to: 0 };
+    Map {
+        places: places,
+        links: links,
+        place_count: 4,
+        link_count: 6,
+    }
+}
+
+// The book with tickets 1 and 2 of the cases.
+fn booked() -> Book
+    ensures { λ r. ⌜ r ≡ bothBook ⌝ }
+{
+    let none = Row {
+        place: 0,
+        entry: 0,
+        ticket: 0,
+        exit: 0,
+        next: 0,
+    };
+    let mut rows = [none; 1024];
+    rows[0] = Row {
+        place: 0,
+        entry: 0,
+        ticket: 1,
+        exit: 10,
+        next: 1,
+    };
+    rows[1] = Row {
+        place: 0,
+        entry: 0,
+        ticket: 2,
+        exit: 10,
+        next: 2,
+    };
+    rows[2] = Row {
+        place: 1,
+        entry: 10,
+        ticket: 1,
+        exit: 30,
+        next: 3,
+    };
+    rows[3] = Row {
+        place: 2,
+        entry: 10,
+        ticket: 2,
+        exit: 40,
+        next: 3,
+    };
+    rows[4] = Row {
+        place: 3,
+        entry: 30,
+        ticket: 1,
+        exit: 40,
+        next: 3,
+    };
+    rows[5] = Row {
+        place: 3,
+        entry: 40,
+        ticket: 2,
+        exit: 50,
+        next: 3,
+    };
+    Book {
+        rows: rows,
+        count: 6,
+        next_ticket: 3,
+    }
+}
+
+// Eight records before a call.
+fn marked() -> [Row; 8]
+    ensures { λ r. ⌜ r ≡ marks ⌝ }
+{
+    let mark = Row {
+        place: 9,
+        entry: 9,
+        ticket: 9,
+        exit: 9,
+        next: 9,
+    };
+    [mark; 8]
+}
+
+// The same with the plan's three rows in front.
+fn planned_rows() -> [Row; 8]
+    ensures { λ r. ⌜ r ≡ planned ⌝ }
+{
+    let mut rows = marked();
+    rows[0] = Row {
+        place: 0,
+        entry: 10,
+        ticket: 0,
+        exit: 30,
+        next: 1,
+    };
+    rows[1] = Row {
+        place: 1,
+        entry: 30,
+        ticket: 0,
+        exit: 50,
+        next: 3,
+    };
+    rows[2] = Row {
+        place: 3,
+        entry: 50,
+        ticket: 0,
+        exit: 60,
+        next: 3,
+    };
+    rows
+}
+
+// The same with the page's two rows in front.
+fn paged_rows() -> [Row; 8]
+    ensures { λ r. ⌜ r ≡ paged ⌝ }
+{
+    let mut rows = marked();
+    rows[0] = Row {
+        place: 0,
+        entry: 0,
+        ticket: 1,
+        exit: 10,
+        next: 1,
+    };
+    rows[1] = Row {
+        place: 0,
+        entry: 0,
+        ticket: 2,
+        exit: 10,
+        next: 2,
+    };
+    rows
+}
+
+fn same_row(x: Row, y: Row) -> bool
+    ensures { λ r. ⌜ (r ≡ true → x ≡ y) × (x ≡ y → r ≡ true) ⌝ }
+{
+    if x.place != y.place {
+        return false;
+    }
+    if x.entry != y.entry {
+        return false;
+    }
+    if x.ticket != y.ticket {
+        return false;
+    }
+    if x.exit != y.exit {
+        return false;
+    }
+    x.next == y.next
+}
+
+// All eight records are equal, each to its own.
+fn same_rows(a: [Row; 8], b: [Row; 8]) -> bool
+    ensures { λ r. ⌜ (r ≡ true → a ≡ b) × (a ≡ b → r ≡ true) ⌝ }
+{
+    let mut i: usize = 0;
+    while i < 8 {
+        let x = a[i];
+        let y = b[i];
+        if !same_row(x, y) {
+            return false;
+        }
+        i += 1;
+    }
+    true
+}
+
+// A refusal's number in the table.
+fn number_of(r: Refusal) -> u64
+    ensures { λ n. ⌜ n ≡ number r ⌝ }
+{
+    match r {
+        Refusal::BadMap => 1,
+        Refusal::BadBook => 2,
+        Refusal::OffMap => 3,
+        Refusal::OffDay => 4,
+        Refusal::NoPlan => 5,
+        Refusal::ShortList => 6,
+        Refusal::FullBook => 7,
+        Refusal::NoTickets => 8,
+        Refusal::UnknownTicket => 9,
+        Refusal::BadSize => 10,
+        Refusal::BadCursor => 11,
+        Refusal::BadFrame => 12,
+    }
+}
+
+fn plan_number(p: Planned) -> u64
+    ensures { λ n. ⌜ n ≡ plannedNumber p ⌝ }
+{
+    match p {
+        Planned::Done(t) => 0,
+        Planned::Refused(r) => number_of(r),
+    }
+}
+
+fn plan_arrival(p: Planned) -> u32
+    ensures { λ n. ⌜ n ≡ plannedArrival p ⌝ }
+{
+    match p {
+        Planned::Done(t) => t.arrival,
+        Planned::Refused(r) => 0,
+    }
+}
+
+fn plan_count(p: Planned) -> usize
+    ensures { λ n. ⌜ n ≡ plannedCount p ⌝ }
+{
+    match p {
+        Planned::Done(t) => t.count,
+        Planned::Refused(r) => 0,
+    }
+}
+
+fn page_number(p: Paged) -> u64
+    ensures { λ n. ⌜ n ≡ pagedNumber p ⌝ }
+{
+    match p {
+        Paged::Done(s) => 0,
+        Paged::Refused(r) => number_of(r),
+    }
+}
+
+fn page_count(p: Paged) -> usize
+    ensures { λ n. ⌜ n ≡ pagedCount p ⌝ }
+{
+    match p {
+        Paged::Done(s) => s.count,
+        Paged::Refused(r) => 0,
+    }
+}
+
+fn page_more(p: Paged) -> bool
+    ensures { λ t. ⌜ t ≡ pagedMore p ⌝ }
+{
+    match p {
+        Paged::Done(s) => s.more,
+        Paged::Refused(r) => false,
+    }
+}
+
+// From 0 to 3 at second 10, with the first n of eight records lent.
+fn plan_into(n: usize) -> PlanShown
+    requires { ⌜ n ≤ 8 ⌝ }
+    ensures { λ r. ⌜ PlanOn n (r .rows) (r .answer) ⌝ }
+{
+    let m = barn();
+    let b = booked();
+    let rows = marked();
+    lend_plan(m, b, 0, 3, 10, rows, n)
+}
+
+// A page of 2 from the first cursor, with the first n of eight records lent.
+fn page_into(n: usize) -> PageShown
+    requires { ⌜ n ≤ 8 ⌝ }
+    ensures { λ r. ⌜ PageOn n (r .rows) (r .answer) ⌝ }
+{
+    let m = barn();
+    let b = booked();
+    let rows = marked();
+    let c = Cursor::first();
+    lend_page(m, b, 2, c, rows, n)
+}
+
+// One line: how many records were lent, the number returned and the count.
+fn say(n: usize, code: u64, count: usize) {
+    let space = [b' '];
+    let end = [b'\n'];
+    io::print_decimal(1, n as u64);
+    io::write_all(1, &space);
+    io::print_decimal(1, code);
+    io::write_all(1, &space);
+    io::print_decimal(1, count as u64);
+    io::write_all(1, &end);
+}
+
+// A plan has three rows: a shorter list is refused with 6 and stays as it was.
+fn check_plan(n: usize)
+    requires { ⌜ n ≤ 8 ⌝ }
+{
+    let s = plan_into(n);
+    let rows = s.rows;
+    let a = s.answer;
+    let code = plan_number(a);
+    let count = plan_count(a);
+    say(n, code, count);
+    if n < 3 {
+        check::expect(same_rows(rows, marked()));
+        check::expect(code == 6);
+        return;
+    }
+    check::expect(same_rows(rows, planned_rows()));
+    check::expect(code == 0);
+    check::expect(plan_arrival(a) == 60);
+    check::expect(count == 3);
+}
+
+// A page of 2 asks for two records, and has two rows and more after them.
+fn check_page(n: usize)
+    requires { ⌜ n ≤ 8 ⌝ }
+{
+    let s = page_into(n);
+    let rows = s.rows;
+    let a = s.answer;
+    let code = page_number(a);
+    let count = page_count(a);
+    say(n, code, count);
+    if n < 2 {
+        check::expect(same_rows(rows, marked()));
+        check::expect(code == 6);
+        return;
+    }
+    check::expect(same_rows(rows, paged_rows()));
+    check::expect(code == 0);
+    check::expect(count == 2);
+    check::expect(page_more(a));
+}
+
+fn main() {
+    check_plan(0);
+    check_plan(2);
+    check_plan(3);
+    check_plan(8);
+    check_page(0);
+    check_page(1);
+    check_page(2);
+    check_page(8);
+}
