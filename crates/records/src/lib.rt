@@ -30,7 +30,7 @@ pub struct FoundPage {
 }
 
 // The first count rows over the first records of the caller's list.
-pub fn copy_rows(rows: [Row; 1280], count: usize, out: &mut [Row])
+fn copy_rows(rows: [Row; 1280], count: usize, out: &mut [Row])
     requires { ⌜ (count ≤ 1280) × (count ≤ length (now out)) ⌝ }
     ensures { λ _. ⌜ now (out .exit) ≡ take count rows ++ drop count (now (out .entry)) ⌝ }
 {
@@ -101,14 +101,7 @@ fn planned_count(p: Planned) -> usize
 }
 
 // The plan for a caller with room for so many records.
-pub fn find_plan(
-    m: Map,
-    b: Book,
-    start: u32,
-    destination: u32,
-    second: u32,
-    room: usize,
-) -> FoundPlan
+fn find_plan(m: Map, b: Book, start: u32, destination: u32, second: u32, room: usize) -> FoundPlan
     ensures { λ f. ⌜ PlanFound m b start destination second room f ⌝ }
 {
     let mut list = [0u8; 14080];
@@ -149,7 +142,7 @@ fn paged_count(p: Paged) -> usize
 }
 
 // The page for a caller with room for so many records.
-pub fn find_page(m: Map, b: Book, size: u32, c: Cursor, room: usize) -> FoundPage
+fn find_page(m: Map, b: Book, size: u32, c: Cursor, room: usize) -> FoundPage
     ensures { λ f. ⌜ PageFound m b size (cursorKey c) room f ⌝ }
 {
     let mut list = [0u8; 14080];

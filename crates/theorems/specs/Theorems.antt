@@ -21,7 +21,7 @@ use Rattle.rules.specs.Plan.{Stay, Permitted, arrival, runRows}
 use Rattle.rules.specs.Book.{GoodBook, rowsOf, bookOf, otherTicket}
 use Rattle.rules.specs.Page.{pageRows, pageMore, lastKey}
 use Rattle.rules.specs.Chosen.{Chosen}
-use Rattle.rules.specs.Answer.{Unless, written, PlanIs, Planning, plannedNumber, plannedArrival, plannedCount, BookIs, BookingIs, bookedNumber, bookedTicket, bookedArrival, bookedCount, CancelIs, CancellingIs, cancelledNumber, cancelledCount, PageIs, PagingIs, pagedNumber, pagedCount, pagedMore, pagedCursor}
+use Rattle.rules.specs.Answer.{Unless, records, written, over, PlanIs, PlanRecords, Planning, plannedNumber, plannedArrival, plannedCount, BookIs, BookingIs, bookedNumber, bookedTicket, bookedArrival, bookedCount, CancelIs, CancellingIs, cancelledNumber, cancelledCount, PageIs, PageRecords, PagingIs, pagedNumber, pagedCount, pagedMore, pagedCursor}
 use Rattle.lanes.specs.Yards.{yard-rules}
 use Rattle.lanes.specs.Chosen.{chosen-best}
 use Rattle.keeping.specs.Calls.{unless, empty-good, booking-good, cancelling-good}
@@ -177,7 +177,7 @@ every-walk-is-true = walked
 -- ---- "Prove that no second answer satisfies it"
 
 pub one-plan : {m : Map} {b : Book} {start dest s : ℕ} {was out out′ : List ℕ} {r r′ : Planned} → PlanIs m b start dest s was out r → PlanIs m b start dest s was out′ r′ → (r ≡ r′) × (out ≡ out′)
-one-plan {m} {b} {start} {dest} {s} {was} {out} {out′} {r} {r′} = no-second-plan (GoodMap m) (GoodBook (mapYard m) b) (mapYard m) (rowsOf b) start dest s was out out′ r r′ (λ M. yard-rules (M .rules) .long)
+one-plan {m} {b} {start} {dest} {s} {was} {out} {out′} {r} {r′} = no-second-plan (GoodMap m) (GoodBook (mapYard m) b) (records was) (λ l. written l was) (mapYard m) (rowsOf b) start dest s was out out′ r r′ (λ M. yard-rules (M .rules) .long)
 
 pub one-booking : {m : Map} {b : Book} {start dest s : ℕ} {r r′ : Booking} → BookIs m b start dest s r → BookIs m b start dest s r′ → r ≡ r′
 one-booking {m} {b} {start} {dest} {s} {r} {r′} = no-second-booking m b start dest s r r′
@@ -186,7 +186,14 @@ pub one-cancellation : {m : Map} {b : Book} {ticket : ℕ} {r r′ : Cancelling}
 one-cancellation {m} {b} {ticket} {r} {r′} = no-second-cancelling m b ticket r r′
 
 pub one-page : {m : Map} {b : Book} {size : ℕ} {k : Key} {was out out′ : List ℕ} {r r′ : Paged} → PageIs m b size k was out r → PageIs m b size k was out′ r′ → (r ≡ r′) × (out ≡ out′)
-one-page {m} {b} {size} {k} {was} {out} {out′} {r} {r′} = no-second-page (GoodMap m) (GoodBook (mapYard m) b) (mapYard m) (rowsOf b) size k was out out′ r r′
+one-page {m} {b} {size} {k} {was} {out} {out′} {r} {r′} = no-second-page (GoodMap m) (GoodBook (mapYard m) b) (records was) (λ l. written l was) (mapYard m) (rowsOf b) size k was out out′ r r′
+
+-- the caller's list as row records
+pub one-plan-in-records : {m : Map} {b : Book} {start dest s : ℕ} {was out out′ : List Row} {r r′ : Planned} → PlanRecords m b start dest s was out r → PlanRecords m b start dest s was out′ r′ → (r ≡ r′) × (out ≡ out′)
+one-plan-in-records {m} {b} {start} {dest} {s} {was} {out} {out′} {r} {r′} = no-second-plan (GoodMap m) (GoodBook (mapYard m) b) (length was) (over was) (mapYard m) (rowsOf b) start dest s was out out′ r r′ (λ M. yard-rules (M .rules) .long)
+
+pub one-page-in-records : {m : Map} {b : Book} {size : ℕ} {k : Key} {was out out′ : List Row} {r r′ : Paged} → PageRecords m b size k was out r → PageRecords m b size k was out′ r′ → (r ≡ r′) × (out ≡ out′)
+one-page-in-records {m} {b} {size} {k} {was} {out} {out′} {r} {r′} = no-second-page (GoodMap m) (GoodBook (mapYard m) b) (length was) (over was) (mapYard m) (rowsOf b) size k was out out′ r r′
 
 pub one-portal-plan : {map book : List ℕ} {start dest s : ℕ} {was out out′ : List ℕ} {r r′ : ℕ} → PortalPlan map book start dest s was out r → PortalPlan map book start dest s was out′ r′ → (r ≡ r′) × (out ≡ out′)
 one-portal-plan {map} {book} {start} {dest} {s} {was} {out} {out′} {r} {r′} = no-second-portal-plan map book start dest s was out out′ r r′

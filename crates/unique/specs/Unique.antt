@@ -16,10 +16,10 @@ use Rattle.rules.specs.declared.Paged.{Paged}
 use Rattle.rules.specs.Limits.{rowLimit}
 use Rattle.rules.specs.Map.{Yard, GoodMap, mapYard}
 use Rattle.rules.specs.Rows.{Key, bit}
-use Rattle.rules.specs.Plan.{Stay}
+use Rattle.rules.specs.Plan.{Stay, arrival, runRows}
 use Rattle.rules.specs.Book.{rowsOf}
 use Rattle.rules.specs.Chosen.{Chosen}
-use Rattle.rules.specs.Answer.{Unless, records, Planning, PlanRefused, PlanDone, PlanSays, BookingIs, BookRefused, BookDone, BookIs, CancellingIs, CancelIs, PagingIs, PageSays, plannedNumber, plannedArrival, plannedCount, pagedNumber, pagedCount, pagedMore}
+use Rattle.rules.specs.Answer.{Unless, records, written, Planning, PlanRefused, PlanAnswers, BookingIs, BookRefused, BookDone, BookIs, CancellingIs, CancelIs, PagingIs, PageRefused, PageAnswers, plannedNumber, plannedArrival, plannedCount, pagedNumber, pagedCount, pagedMore}
 use Rattle.rules.specs.Portal.{MapSlice, BookSlice, sliceYard, sliceRows, oneNumber, PortalPlan, PortalPage}
 use Rattle.lanes.specs.Yards.{yard-rules}
 use Rattle.lanes.specs.Chosen.{no-second}
@@ -34,34 +34,38 @@ both f g (inr x) (inr y) = g (x .0) (x .1) (y .1)
 
 -- ---- page
 
-pub page-same : {n c : ℕ} {more : Bool} {k : Key} {list out out′ : List ℕ} {r r′ : Paged} → PagingIs n c more k list out r → PagingIs n c more k list out′ r′ → (r ≡ r′) × (out ≡ out′)
+pub page-same : {A : Type 0} {n c : ℕ} {more : Bool} {k : Key} {list out out′ : List A} {r r′ : Paged} → PagingIs n c more k list out r → PagingIs n c more k list out′ r′ → (r ≡ r′) × (out ≡ out′)
 page-same {r} {r′} p q = (
   paged-same r r′ (p .code ∙ sym (q .code)) (p .counts ∙ sym (q .counts)) (p .says ∙ sym (q .says)) (p .hands ∙ sym (q .hands)),
   p .holds ∙ sym (q .holds),
 )
 
-pub no-second-page : (map-ok book-ok : Type 0) (Y : Yard) (rows : List Row) (size : ℕ) (k : Key) (was out out′ : List ℕ) (r r′ : Paged)
-    → PageSays map-ok book-ok Y rows size k was out r → PageSays map-ok book-ok Y rows size k was out′ r′ → (r ≡ r′) × (out ≡ out′)
-no-second-page map-ok book-ok Y rows size k was out out′ r r′ =
+pub no-second-page : {A : Type 0} (map-ok book-ok : Type 0) (room : ℕ) (after : List Row → List A) (Y : Yard) (rows : List Row) (size : ℕ) (k : Key) (was out out′ : List A) (r r′ : Paged)
+    → Unless map-ok (PageRefused 1 was out r) (Unless book-ok (PageRefused 2 was out r) (PageAnswers room after Y rows size k was out r))
+    → Unless map-ok (PageRefused 1 was out′ r′) (Unless book-ok (PageRefused 2 was out′ r′) (PageAnswers room after Y rows size k was out′ r′))
+    → (r ≡ r′) × (out ≡ out′)
+no-second-page map-ok book-ok room after Y rows size k was out out′ r r′ =
     both page-same (λ _. both page-same (λ _. both page-same (λ _. both page-same (λ _. both page-same (λ _. page-same)))))
 
 -- ---- plan
 
-pub plan-same : {n a c : ℕ} {list out out′ : List ℕ} {r r′ : Planned} → Planning n a c list out r → Planning n a c list out′ r′ → (r ≡ r′) × (out ≡ out′)
+pub plan-same : {A : Type 0} {n a c : ℕ} {list out out′ : List A} {r r′ : Planned} → Planning n a c list out r → Planning n a c list out′ r′ → (r ≡ r′) × (out ≡ out′)
 plan-same {r} {r′} p q = (
   planned-same r r′ (p .code ∙ sym (q .code)) (p .arrives ∙ sym (q .arrives)) (p .counts ∙ sym (q .counts)),
   p .holds ∙ sym (q .holds),
 )
 
 -- the map's rules give durations of at least a second
-pub no-second-plan : (map-ok book-ok : Type 0) (Y : Yard) (rows : List Row) (start dest s : ℕ) (was out out′ : List ℕ) (r r′ : Planned)
+pub no-second-plan : {A : Type 0} (map-ok book-ok : Type 0) (room : ℕ) (after : List Row → List A) (Y : Yard) (rows : List Row) (start dest s : ℕ) (was out out′ : List A) (r r′ : Planned)
     → (map-ok → (p : ℕ) → 0 < Y .dur p)
-    → PlanSays map-ok book-ok Y rows start dest s was out r → PlanSays map-ok book-ok Y rows start dest s was out′ r′ → (r ≡ r′) × (out ≡ out′)
-no-second-plan map-ok book-ok Y rows start dest s was out out′ r r′ long =
+    → Unless map-ok (PlanRefused 1 was out r) (Unless book-ok (PlanRefused 2 was out r) (PlanAnswers room after Y rows start dest s was out r))
+    → Unless map-ok (PlanRefused 1 was out′ r′) (Unless book-ok (PlanRefused 2 was out′ r′) (PlanAnswers room after Y rows start dest s was out′ r′))
+    → (r ≡ r′) × (out ≡ out′)
+no-second-plan {A} map-ok book-ok room after Y rows start dest s was out out′ r r′ long =
     both plan-same (λ M. both plan-same (λ _. both plan-same (λ _. both plan-same (λ _. both plan-same (λ _. chosen M)))))
   where
-    Listed : List ℕ → Planned → List Stay → Type 0
-    Listed o x plan = Unless (length plan ≤ records was) (PlanRefused 6 was o x) (PlanDone plan was o x)
+    Listed : List A → Planned → List Stay → Type 0
+    Listed o x plan = Unless (length plan ≤ room) (PlanRefused 6 was o x) (Planning 0 (arrival plan) (length plan) (after (runRows 0 plan)) o x)
 
     chosen : map-ok → (plan : List Stay) × Chosen Y rows start dest s plan × Listed out r plan → (plan : List Stay) × Chosen Y rows start dest s plan × Listed out′ r′ plan → (r ≡ r′) × (out ≡ out′)
     chosen M x y =
@@ -105,11 +109,11 @@ no-second-cancelling m b ticket r r′ = both cancelling-same (λ _. both cancel
 pub no-second-portal-plan : (map book : List ℕ) (start dest s : ℕ) (was out out′ : List ℕ) (r r′ : ℕ)
     → PortalPlan map book start dest s was out r → PortalPlan map book start dest s was out′ r′ → (r ≡ r′) × (out ≡ out′)
 no-second-portal-plan map book start dest s was out out′ r r′ p q =
-    let e = no-second-plan (MapSlice map) (BookSlice (sliceYard map) book) (sliceYard map) (sliceRows book) start dest s was out out′ (p .answer) (q .answer) (λ M. yard-rules (M .rules) .long) (p .says) (q .says) in
+    let e = no-second-plan (MapSlice map) (BookSlice (sliceYard map) book) (records was) (λ l. written l was) (sliceYard map) (sliceRows book) start dest s was out out′ (p .answer) (q .answer) (λ M. yard-rules (M .rules) .long) (p .says) (q .says) in
     (p .result ∙ ap (λ a. oneNumber (plannedNumber a) (plannedArrival a) (plannedCount a)) (e .0) ∙ sym (q .result), e .1)
 
 pub no-second-portal-page : (map book : List ℕ) (size : ℕ) (k : Key) (was out out′ : List ℕ) (r r′ : ℕ)
     → PortalPage map book size k was out r → PortalPage map book size k was out′ r′ → (r ≡ r′) × (out ≡ out′)
 no-second-portal-page map book size k was out out′ r r′ p q =
-    let e = no-second-page (MapSlice map) (BookSlice (sliceYard map) book) (sliceYard map) (sliceRows book) size k was out out′ (p .answer) (q .answer) (p .says) (q .says) in
+    let e = no-second-page (MapSlice map) (BookSlice (sliceYard map) book) (records was) (λ l. written l was) (sliceYard map) (sliceRows book) size k was out out′ (p .answer) (q .answer) (p .says) (q .says) in
     (p .result ∙ ap (λ a. oneNumber (pagedNumber a) (bit (pagedMore a)) (pagedCount a)) (e .0) ∙ sym (q .result), e .1)
