@@ -1,2 +1,3 @@
 pub mod Hex
 pub mod Put
+pub mod Lines
