@@ -1,3 +1,4 @@
 pub mod Hex
 pub mod Put
 pub mod Lines
+pub mod Heads

@@ -1,11 +1,15 @@
 // The program's frames: a line of digits in, the state after it and the answer's digits out.
+use rules::{Book, Booked, Booking, Cancelled, Cancelling, Cursor, Link, Map, Paged, Place, Planned, Refusal, State};
 ghost use mathlib.Core.Path.{_≡_};
-ghost use Prim.Native.Nat.{ℕ, _+_, _*_, _<_, _≤_};
+ghost use Prim.Native.Nat.{ℕ, _+_, _*_, _%_, _<_, _≤_};
 ghost use mathlib.Core.List.{List, [], _∷_, _++_};
 ghost use lib.ListN.{length, take, drop};
-ghost use Rattle.rules.specs.Frames.{digit, hexOf, lineOf};
+ghost use Rattle.rules.specs.Rows.{bit};
+ghost use Rattle.rules.specs.Answer.{number, plannedNumber, plannedArrival, plannedCount, bookedNumber, bookedTicket, bookedArrival, bookedCount, cancelledNumber, cancelledCount, pagedNumber, pagedCount, pagedMore};
+ghost use Rattle.rules.specs.Frames.{digit, hexOf, lineOf, after00, bytes2, bytes3};
 ghost use Rattle.frames.specs.Hex.{Value};
 ghost use Rattle.frames.specs.Lines.{LineIs, Decoded, FormIs};
+ghost use Rattle.frames.specs.Heads.{HeadIs};
 ghost use Rattle.frames.specs.Put.{Put, Digits, RowsPut};
 
 // The digits of a line, of which a frame has at most 18: len 19 stands for any longer line.
@@ -173,5 +177,146 @@ fn put_rows(list: &[u8], n: usize, at: usize, out: &mut [u8])
     while j < n {
         put_line(list, 11 * j, 11, at + 23 * j, out);
         j += 1;
+    }
+}
+
+// The bytes of an answer's first line.
+struct Head {
+    bytes: [u8; 9],
+    count: usize,
+}
+
+// A refusal's number in the table.
+fn number_of(r: Refusal) -> u8
+    ensures { λ n. ⌜ n ≡ number r ⌝ }
+{
+    match r {
+        Refusal::BadMap => 1,
+        Refusal::BadBook => 2,
+        Refusal::OffMap => 3,
+        Refusal::OffDay => 4,
+        Refusal::NoPlan => 5,
+        Refusal::ShortList => 6,
+        Refusal::FullBook => 7,
+        Refusal::NoTickets => 8,
+        Refusal::UnknownTicket => 9,
+        Refusal::BadSize => 10,
+        Refusal::BadCursor => 11,
+        Refusal::BadFrame => 12,
+    }
+}
+
+fn refused_head(r: Refusal) -> Head
+    ensures { λ h. ⌜ ((more : List ℕ) → HeadIs (after00 (number r) more) h) ⌝ }
+{
+    Head {
+        bytes: [number_of(r); 9],
+        count: 1,
+    }
+}
+
+fn low_byte(x: u32) -> u8
+    ensures { λ r. ⌜ r ≡ x % 256 ⌝ }
+{
+    (x % 256) as u8
+}
+
+fn low_of(x: usize) -> u8
+    ensures { λ r. ⌜ r ≡ x % 256 ⌝ }
+{
+    (x % 256) as u8
+}
+
+fn plan_head(p: Planned) -> Head
+    ensures { λ h. ⌜ HeadIs (after00 (plannedNumber p) (bytes3 (plannedArrival p) ++ bytes2 (plannedCount p))) h ⌝ }
+{
+    match p {
+        Planned::Done(t) => {
+            let mut bytes = [0u8; 9];
+            bytes[1] = low_byte(t.arrival / 65536);
+            bytes[2] = low_byte(t.arrival / 256);
+            bytes[3] = low_byte(t.arrival);
+            bytes[4] = low_of(t.count / 256);
+            bytes[5] = low_of(t.count);
+            Head { bytes: bytes, count: 6 }
+        }
+        Planned::Refused(r) => refused_head(r),
+    }
+}
+
+fn book_head(b: Booked) -> Head
+    ensures { λ h. ⌜ HeadIs (after00 (bookedNumber b) (bytes3 (bookedTicket b) ++ (bytes3 (bookedArrival b) ++ bytes2 (bookedCount b)))) h ⌝ }
+{
+    match b {
+        Booked::Done(t) => {
+            let mut bytes = [0u8; 9];
+            bytes[1] = low_byte(t.ticket / 65536);
+            bytes[2] = low_byte(t.ticket / 256);
+            bytes[3] = low_byte(t.ticket);
+            bytes[4] = low_byte(t.arrival / 65536);
+            bytes[5] = low_byte(t.arrival / 256);
+            bytes[6] = low_byte(t.arrival);
+            bytes[7] = low_of(t.count / 256);
+            bytes[8] = low_of(t.count);
+            Head { bytes: bytes, count: 9 }
+        }
+        Booked::Refused(r) => refused_head(r),
+    }
+}
+
+fn cancel_head(a: Cancelled) -> Head
+    ensures { λ h. ⌜ HeadIs (after00 (cancelledNumber a) (bytes2 (cancelledCount a))) h ⌝ }
+{
+    match a {
+        Cancelled::Done(c) => {
+            let mut bytes = [0u8; 9];
+            bytes[1] = low_of(c / 256);
+            bytes[2] = low_of(c);
+            Head { bytes: bytes, count: 3 }
+        }
+        Cancelled::Refused(r) => refused_head(r),
+    }
+}
+
+fn bit_of(b: bool) -> u8
+    ensures { λ r. ⌜ r ≡ bit b ⌝ }
+{
+    if b {
+        return 1;
+    }
+    0
+}
+
+fn page_head(p: Paged) -> Head
+    requires { ⌜ pagedCount p < 256 ⌝ }
+    ensures { λ h. ⌜ HeadIs (after00 (pagedNumber p) (pagedCount p ∷ (bit (pagedMore p) ∷ []))) h ⌝ }
+{
+    match p {
+        Paged::Done(s) => {
+            let mut bytes = [0u8; 9];
+            bytes[1] = low_of(s.count);
+            bytes[2] = bit_of(s.more);
+            Head { bytes: bytes, count: 3 }
+        }
+        Paged::Refused(r) => refused_head(r),
+    }
+}
+
+// How many row lines follow.
+fn plan_rows(p: Planned) -> usize
+    ensures { λ r. ⌜ r ≡ plannedCount p ⌝ }
+{
+    match p {
+        Planned::Done(t) => t.count,
+        Planned::Refused(_) => 0,
+    }
+}
+
+fn page_rows(p: Paged) -> usize
+    ensures { λ r. ⌜ r ≡ pagedCount p ⌝ }
+{
+    match p {
+        Paged::Done(s) => s.count,
+        Paged::Refused(_) => 0,
     }
 }

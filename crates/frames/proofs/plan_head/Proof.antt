@@ -1,0 +1,88 @@
+use borrow.Author.Needs.{needs}
+use Rattle.frames.proofs.plan_head.Statement.{statement}
+use Rattle.frames.proofs.plan_head.Tie as tie
+use Rattle.frames.proofs.plan_head.Reads as reads
+use Rattle.frames.proofs.plan_head.Lts as lts
+use Rattle.frames.proofs.low_byte.Reads as low-byte-reads
+use Rattle.frames.proofs.low_of.Reads as low-of-reads
+use Rattle.frames.proofs.refused_head.Reads as refused-head-reads
+
+-- src/lib.rt:234:23
+enum-known-p : tie.Need-enum-known-p
+enum-known-p c = search needs
+
+-- src/lib.rt:236:24
+low-byte-requires : tie.Need-low-byte-requires
+low-byte-requires c κs = search needs
+
+-- src/lib.rt:236:13
+array-write-bytes : tie.Need-array-write-bytes
+array-write-bytes c = search needs
+
+-- src/lib.rt:237:24
+low-byte-requires-2 : tie.Need-low-byte-requires-2
+low-byte-requires-2 c κs = search needs
+
+-- src/lib.rt:237:13
+array-write-bytes-2 : tie.Need-array-write-bytes-2
+array-write-bytes-2 c = search needs
+
+-- src/lib.rt:238:24
+low-byte-requires-3 : tie.Need-low-byte-requires-3
+low-byte-requires-3 c κs = search needs
+
+-- src/lib.rt:238:13
+array-write-bytes-3 : tie.Need-array-write-bytes-3
+array-write-bytes-3 c = search needs
+
+-- src/lib.rt:239:24
+low-of-requires : tie.Need-low-of-requires
+low-of-requires c κs = search needs
+
+-- src/lib.rt:239:13
+array-write-bytes-4 : tie.Need-array-write-bytes-4
+array-write-bytes-4 c = search needs
+
+-- src/lib.rt:240:24
+low-of-requires-2 : tie.Need-low-of-requires-2
+low-of-requires-2 c κs = search needs
+
+-- src/lib.rt:240:13
+array-write-bytes-5 : tie.Need-array-write-bytes-5
+array-write-bytes-5 c = search needs
+
+-- src/lib.rt:243:26
+enum-known-p-2 : tie.Need-enum-known-p-2
+enum-known-p-2 c = search needs
+
+-- src/lib.rt:243:32
+refused-head-requires : tie.Need-refused-head-requires
+refused-head-requires c κs = search needs
+
+-- src/lib.rt:230:1
+returns : tie.Need-returns
+returns c = ?
+
+-- src/lib.rt:230:1
+returns-2 : tie.Need-returns-2
+returns-2 c = ?
+
+pub plan-head-spec : {M : Type 1} → statement M
+plan-head-spec =
+    tie.close
+    (tie.spec
+    enum-known-p
+    low-byte-requires
+    array-write-bytes
+    low-byte-requires-2
+    array-write-bytes-2
+    low-byte-requires-3
+    array-write-bytes-3
+    low-of-requires
+    array-write-bytes-4
+    low-of-requires-2
+    array-write-bytes-5
+    enum-known-p-2
+    refused-head-requires
+    returns
+    returns-2)
