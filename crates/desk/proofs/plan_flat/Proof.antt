@@ -1,50 +1,36 @@
 -- `desk::plan_flat` meets its contract: vetting decides 1 and 2, and what is sound is planned on.
-use Prim.Native.Nat.{ℕ, suc, _+_, _-_, _*_, _/_, _%_, _≤_, _<_, min, max}
-use mathlib.Core.Path.{_≡_, refl, sym, ap, subst, _∙_}
-use mathlib.Core.Logic.{_⊎_, inl, inr, ⊎-elim}
-use mathlib.Core.Bool.{Bool, true, false, not}
-use mathlib.Core.List.{List}
+use Prim.Native.Nat.{_-_}
+use mathlib.Core.Path.{refl}
+use mathlib.Core.Logic.{inr}
 use native.Mathlib.Omega.{arith}
-use lib.ListN.{length, getD, set, take, drop}
 use borrow.Author.Needs.{needs}
 use Rattle.laws.specs.Lists.{zeros}
-use Rattle.vet.specs.Vetted.{Vetted}
 use Rattle.desk.specs.Planning.{plan-bad-map, plan-bad-book}
-use Rattle.vet.proofs.vet.Reads as vet-reads
 use Rattle.desk.proofs.plan_flat.Statement.{statement}
 use Rattle.desk.proofs.plan_flat.Tie as tie
-use Rattle.desk.proofs.plan_flat.Reads as reads
-use Rattle.desk.proofs.plan_flat.Lts as lts
-use Rattle.desk.proofs.plan_sound.Reads as plan-sound-reads
 
--- src/lib.rt:97:9
 vet-requires : tie.Need-vet-requires
 vet-requires c κs = ((refl, refl), (zeros 256, (c .before .before .before .before .before .before .before .pre, (refl, refl, refl, refl))))
 
--- src/lib.rt:99:9
 returns : tie.Need-returns
 returns c =
     let W = c .before .vet .ensures in
     plan-bad-map (W .no-map (omega (arith, W .bound, c .if1 .taken))) refl
 
--- src/lib.rt:102:9
 returns-2 : tie.Need-returns-2
 returns-2 c =
     let W = c .before .before .vet .ensures in
     plan-bad-book (W .map (omega (arith, c .before .if1 .left))) (W .no-book (omega (arith, c .before .if1 .left, c .if2 .taken))) refl
 
--- src/lib.rt:104:5
 plan-sound-requires : tie.Need-plan-sound-requires
 plan-sound-requires c κs =
     let W = c .before .before .before .before .before .before .before .before .before .vet .ensures in
     let h = c .before .before .before .before .before .before .before .if2 .left in
     (W .lanes h, W .formed h .room)
 
--- src/lib.rt:71:1
 same-length : tie.Need-same-length
 same-length c = search needs
 
--- src/lib.rt:71:1
 returns-3 : tie.Need-returns-3
 returns-3 c =
     let W = c .before .before .before .before .before .before .before .before .before .before .before .before .vet .ensures in

@@ -1,65 +1,44 @@
 -- `planner::route` meets its contract: without a window to begin in, or with no window of the destination reached, no plan is permitted; else the trail
 -- to the window that the search found is the chosen plan.
-use Prim.Native.Nat.{ℕ, suc, _+_, _-_, _*_, _/_, _%_, _≤_, _<_, min, max}
-use mathlib.Core.Path.{_≡_, refl, sym, ap, subst, _∙_}
-use mathlib.Core.Logic.{_⊎_, inl, inr, ⊎-elim}
-use mathlib.Core.Bool.{Bool, true, false, not}
-use mathlib.Core.List.{List}
+use Prim.Native.Nat.{_+_, _-_}
+use mathlib.Core.Path.{refl, sym}
 use native.Mathlib.Omega.{arith}
-use lib.ListN.{length, getD, set}
 use borrow.Author.Needs.{needs}
 use lib.ListN.{getD-replicate}
-use Rattle.laws.specs.Lists.{at}
-use Rattle.search.specs.Lanes.{Lanes, lanes-ground}
+use Rattle.search.specs.Lanes.{lanes-ground}
 use Rattle.flat.specs.Links.{group-end}
 use Rattle.planner.specs.Choice.{none-begins, none-found, src-in}
-use Rattle.planner.specs.Route.{Routed, begins-as, row-as, routed-none, routed-found}
-use Rattle.search.proofs.begin_at.Reads as begin-at-reads
-use Rattle.search.proofs.search.Reads as search-reads
-use Rattle.search.proofs.trail.Reads as trail-reads
+use Rattle.planner.specs.Route.{begins-as, row-as, routed-none, routed-found}
 use Rattle.planner.proofs.route.Statement.{statement}
 use Rattle.planner.proofs.route.Tie as tie
-use Rattle.planner.proofs.route.Reads as reads
-use Rattle.planner.proofs.route.Lts as lts
-use Rattle.planner.proofs.broad.Reads as broad-reads
 
--- src/lib.rt:98:19
 mul-broad : tie.Need-mul-broad
 mul-broad c = omega (arith, lanes-ground (c .pre .0) .places)
 
--- src/lib.rt:98:19
 element-copy-out-broad : tie.Need-element-copy-out-broad
 element-copy-out-broad c = omega (arith, lanes-ground (c .pre .0) .places)
 
--- src/lib.rt:98:9
 broad-requires : tie.Need-broad-requires
 broad-requires c κs = search needs
 
--- src/lib.rt:99:25
 add-broad : tie.Need-add-broad
 add-broad c = search needs
 
--- src/lib.rt:99:19
 mul-broad-2 : tie.Need-mul-broad-2
 mul-broad-2 c = omega (arith, lanes-ground (c .before .before .pre .0) .places)
 
--- src/lib.rt:99:19
 element-copy-out-broad-2 : tie.Need-element-copy-out-broad-2
 element-copy-out-broad-2 c = omega (arith, lanes-ground (c .before .before .pre .0) .places)
 
--- src/lib.rt:99:9
 broad-requires-2 : tie.Need-broad-requires-2
 broad-requires-2 c κs = search needs
 
--- src/lib.rt:100:13
 mul-d : tie.Need-mul-d
 mul-d c = omega (arith, lanes-ground (c .before .before .before .before .pre .0) .places)
 
--- src/lib.rt:100:13
 element-copy-out-d : tie.Need-element-copy-out-d
 element-copy-out-d c = omega (arith, lanes-ground (c .before .before .before .before .pre .0) .places)
 
--- src/lib.rt:101:9
 begin-at-requires : tie.Need-begin-at-requires
 begin-at-requires c κs =
     let s = c .before .before .before .before .before in
@@ -70,7 +49,6 @@ begin-at-requires c κs =
     let f = c .before .broad2 .ensures .0 in
     ((omega (arith, G .by-place .up o oh), omega (arith, group-end (G .by-place) (o + 1) (omega arith), G .windows), s .pre .1 .1 .0 .2, G .durs o oh), row-as (sym e) (sym f) (G .of-place o oh))
 
--- src/lib.rt:103:9
 returns : tie.Need-returns
 returns c =
     let s = c .before .before .before .before .before .before .before in
@@ -78,7 +56,6 @@ returns c =
     let X = begins-as (c .before .before .before .before .before .broad .ensures .0) (c .before .before .before .broad2 .ensures .0) (c .before .begin-at .ensures) in
     routed-none (none-begins (P .0) (P .1 .0) (s .args .origin) (s .args .dest) (s .args .s) (P .1 .1 .0 .0) (P .1 .1 .0 .1) X (omega (arith, X .within, c .if1 .taken))) (P .1 .1 .1 .1 .1)
 
--- src/lib.rt:106:9
 search-requires : tie.Need-search-requires
 search-requires c κs =
     let s = c .before .before .before .before .before .before .before .before .before in
@@ -87,7 +64,6 @@ search-requires c κs =
     let b = c .before .before .if1 .left in
     (P .0, ((src-in (P .0) (P .1 .0) (s .args .origin) (s .args .dest) (s .args .s) (P .1 .1 .0 .0) (P .1 .1 .0 .1) (P .1 .1 .0 .2) X b, omega (arith, P .1 .1 .0 .2)), (P .1 .1 .1 .0, (getD-replicate 1280 (c .before .before .before .begin-at .result) 0 0 b, (P .1 .1 .1 .1 .0, refl)))))
 
--- src/lib.rt:108:9
 returns-2 : tie.Need-returns-2
 returns-2 c =
     let s = c .before .before .before .before .before .before .before .before .before .before .before in
@@ -96,13 +72,11 @@ returns-2 c =
     let A = c .before .search .ensures in
     routed-none (none-found (P .0) (P .1 .0) (s .args .origin) (s .args .dest) (s .args .s) (P .1 .1 .0 .0) (P .1 .1 .0 .1) (P .1 .1 .0 .2) X (c .before .before .before .before .if1 .left) A (omega (arith, A .within, c .if2 .taken))) (P .1 .1 .1 .1 .1)
 
--- src/lib.rt:110:5
 trail-requires : tie.Need-trail-requires
 trail-requires c κs =
     let s = c .before .before .before .before .before .before .before .before .before .before .before .before .before .before in
     (c .before .before .before .before .search .ensures .rooted (c .before .before .before .if2 .left), s .pre .1 .1 .1 .1 .1)
 
--- src/lib.rt:67:1
 returns-3 : tie.Need-returns-3
 returns-3 c =
     let s = c .before .before .before .before .before .before .before .before .before .before .before .before .before .before .before in

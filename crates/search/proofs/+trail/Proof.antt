@@ -1,15 +1,13 @@
-use Prim.Native.Nat.{ℕ, suc, _+_, _-_, _*_, _/_, _%_, _≤_, _<_, min, max}
-use mathlib.Core.Path.{_≡_, refl, sym, ap, subst, _∙_}
-use mathlib.Core.Logic.{_⊎_, inl, inr, ⊎-elim}
-use mathlib.Core.Bool.{Bool, true, false, not}
-use mathlib.Core.List.{List}
+-- `search::trail` meets its contract, by recursion along the windows before: the label is the number that falls. A trail has fewer windows than there
+-- are labels below its last one's, with that one, so the path holds it.
+use Prim.Native.Nat.{ℕ, _+_, _-_, _<_}
+use mathlib.Core.Path.{_≡_}
 use native.Mathlib.Omega.{arith}
-use lib.ListN.{length, getD, set}
 use borrow.Author.Needs.{needs}
 use denote.Ref.{now}
 use Rattle.laws.specs.Lists.{at}
-use Rattle.settle.specs.Search.{Rooted, rooted-in, rooted-back, rooted-small}
-use Rattle.search.specs.Trail.{Trailed, trailed-root, trailed-back, trailed-room}
+use Rattle.settle.specs.Search.{rooted-in, rooted-back}
+use Rattle.search.specs.Trail.{trailed-root, trailed-back, trailed-room}
 use borrow.Fn.Kinds.{In}
 use borrow.Fn.PlainCycle.{Measures, is, falls, and}
 use Rattle.search.proofs.trail.Reads as trail
@@ -18,8 +16,6 @@ use Rattle.search.proofs.+trail.Lts-trail as trail-lts
 use Rattle.search.proofs.broad.Reads as broad-reads
 use Rattle.search.proofs.+trail.{statement}
 use Rattle.search.proofs.+trail.Tie.{close}
-
--- are labels below its last one's, with that one, so the path holds it.
 
 abbrev μ-trail : Measures 3 trail-kinds.ps ℕ
 μ-trail κs a = at (now (a .1 .0)) (a .1 .1 .0)
@@ -30,7 +26,6 @@ trail-at t = and 3 trail-kinds.ps (is 3 trail-kinds.ps μ-trail t) trail.Pre
 abbrev trail-below : ℕ → In 3 trail-kinds.ps
 trail-below t = and 3 trail-kinds.ps (falls 3 trail-kinds.ps _<_ μ-trail t) trail.Pre
 
--- src/lib.rt:398:19
 trail-mul-broad : (t : ℕ) → trail-lts.Need-mul-broad (
   broad-reads.Asked,
   broad-reads.Learnt,
@@ -39,7 +34,6 @@ trail-mul-broad : (t : ℕ) → trail-lts.Need-mul-broad (
 ) (trail-at t) trail.Post
 trail-mul-broad t c = omega (arith, rooted-in (c .pre .1 .0))
 
--- src/lib.rt:398:19
 trail-element-copy-out-broad : (t : ℕ) → trail-lts.Need-element-copy-out-broad (
   broad-reads.Asked,
   broad-reads.Learnt,
@@ -48,7 +42,6 @@ trail-element-copy-out-broad : (t : ℕ) → trail-lts.Need-element-copy-out-bro
 ) (trail-at t) trail.Post
 trail-element-copy-out-broad t c = rooted-in (c .pre .1 .0)
 
--- src/lib.rt:398:9
 trail-broad-requires : (t : ℕ) → trail-lts.Need-broad-requires (
   broad-reads.Asked,
   broad-reads.Learnt,
@@ -57,7 +50,6 @@ trail-broad-requires : (t : ℕ) → trail-lts.Need-broad-requires (
 ) (trail-at t) trail.Post
 trail-broad-requires t c κs = search needs
 
--- src/lib.rt:400:19
 trail-cast-path : (t : ℕ) → trail-lts.Need-cast-path (
   broad-reads.Asked,
   broad-reads.Learnt,
@@ -66,7 +58,6 @@ trail-cast-path : (t : ℕ) → trail-lts.Need-cast-path (
 ) (trail-at t) trail.Post
 trail-cast-path t c = omega (arith, rooted-in (c .before .before .before .pre .1 .0))
 
--- src/lib.rt:400:9
 trail-element-write-path : (t : ℕ) → trail-lts.Need-element-write-path (
   broad-reads.Asked,
   broad-reads.Learnt,
@@ -75,7 +66,6 @@ trail-element-write-path : (t : ℕ) → trail-lts.Need-element-write-path (
 ) (trail-at t) trail.Post
 trail-element-write-path t c = search needs
 
--- src/lib.rt:401:9
 trail-returns : (t : ℕ) → trail-lts.Need-returns (
   broad-reads.Asked,
   broad-reads.Learnt,
@@ -86,7 +76,6 @@ trail-returns t c =
     let s = c .before .before .before in
     trailed-root (now (s .args .label)) (now (s .args .path)) (omega (arith, c .before .broad .ensures .0, c .if1 .taken)) (s .pre .1 .1)
 
--- src/lib.rt:403:9
 trail-trail-requires : (t : ℕ) → trail-lts.Need-trail-requires (
   broad-reads.Asked,
   broad-reads.Learnt,
@@ -99,7 +88,6 @@ trail-trail-requires t c κs =
     let z = rooted-back (s .pre .1 .0) (omega (arith, c .before .if1 .left)) in
     (rw e (omega (arith, s .pre .0, z .1)), (rw e (z .0), s .pre .1 .1))
 
--- src/lib.rt:404:15
 trail-cast-path-2 : (t : ℕ) → trail-lts.Need-cast-path-2 (
   broad-reads.Asked,
   broad-reads.Learnt,
@@ -108,7 +96,6 @@ trail-cast-path-2 : (t : ℕ) → trail-lts.Need-cast-path-2 (
 ) (trail-at t) trail.Post
 trail-cast-path-2 t c = omega (arith, rooted-in (c .before .before .before .before .before .pre .1 .0))
 
--- src/lib.rt:404:5
 trail-mul-path : (t : ℕ) → trail-lts.Need-mul-path (
   broad-reads.Asked,
   broad-reads.Learnt,
@@ -121,7 +108,6 @@ trail-mul-path t c =
     let z = rooted-back (s .pre .1 .0) (omega (arith, c .before .before .if1 .left)) in
     omega (arith, trailed-room (rooted-in (s .pre .1 .0)) (rooted-in (z .0)) (z .1) (rw e at (c .trail .ensures)))
 
--- src/lib.rt:404:5
 trail-element-write-path-2 : (t : ℕ) → trail-lts.Need-element-write-path-2 (
   broad-reads.Asked,
   broad-reads.Learnt,
@@ -134,7 +120,6 @@ trail-element-write-path-2 t c =
     let z = rooted-back (s .pre .1 .0) (omega (arith, c .before .before .if1 .left)) in
     omega (arith, trailed-room (rooted-in (s .pre .1 .0)) (rooted-in (z .0)) (z .1) (rw e at (c .trail .ensures)))
 
--- src/lib.rt:405:5
 trail-add-result : (t : ℕ) → trail-lts.Need-add-result (
   broad-reads.Asked,
   broad-reads.Learnt,
@@ -147,7 +132,6 @@ trail-add-result t c =
     let z = rooted-back (s .pre .1 .0) (omega (arith, c .before .before .if1 .left)) in
     omega (arith, trailed-room (rooted-in (s .pre .1 .0)) (rooted-in (z .0)) (z .1) (rw e at (c .trail .ensures)))
 
--- src/lib.rt:388:1
 trail-returns-2 : (t : ℕ) → trail-lts.Need-returns-2 (
   broad-reads.Asked,
   broad-reads.Learnt,

@@ -1,11 +1,8 @@
 -- `search::crossed` meets its contract: no row passed goes from q to p at t, and the first that does is the answer.
-use Prim.Native.Nat.{ℕ, _+_, _-_, _*_, _/_, _%_, _≤_, _<_, min, max}
-use mathlib.Core.Path.{_≡_, refl, sym, ap, subst, _∙_}
-use mathlib.Core.Logic.{_⊎_, inl, inr, ⊎-elim}
-use mathlib.Core.Bool.{Bool, true, false, not}
-use mathlib.Core.List.{List}
+use Prim.Native.Nat.{ℕ, _-_, _≤_, _<_}
+use mathlib.Core.Path.{_≡_, sym}
+use mathlib.Core.Logic.{_⊎_, ⊎-elim}
 use native.Mathlib.Omega.{arith}
-use lib.ListN.{length, getD, set}
 use borrow.Author.Needs.{needs}
 use borrow.Author.Count.{below-more}
 use Rattle.laws.specs.Lists.{at}
@@ -14,9 +11,6 @@ use Rattle.flat.specs.Flat.{placeOf}
 use Rattle.flat.specs.Crossings.{array-crosses, array-clear}
 use Rattle.search.proofs.crossed.Statement.{statement}
 use Rattle.search.proofs.crossed.Tie as tie
-use Rattle.search.proofs.crossed.Reads as reads
-use Rattle.search.proofs.crossed.Lts as lts
-use Rattle.search.proofs.goes.Reads as goes-reads
 
 abbrev Inv-loop : tie.InvT-loop
 Inv-loop key exit next n q p t i₀ i = (i ≤ n) × ((k : ℕ) → k < i → placeOf (at key k) ≡ q → at next k ≡ p → at exit k ≡ t → ⊥)
@@ -24,35 +18,27 @@ Inv-loop key exit next n q p t i₀ i = (i ≤ n) × ((k : ℕ) → k < i → pl
 abbrev μ-loop : tie.MeasureT-loop
 μ-loop key exit next n q p t i₀ i = n - i
 
--- src/lib.rt:71:5
 loop-holds : tie.Need-loop-holds Inv-loop μ-loop
 loop-holds c = (omega arith, λ k h. absurd (omega arith))
 
--- src/lib.rt:72:12
 mul-if1 : tie.Need-mul-if1 Inv-loop μ-loop
 mul-if1 c = search needs
 
--- src/lib.rt:72:12
 element-copy-out-if1 : tie.Need-element-copy-out-if1 Inv-loop μ-loop
 element-copy-out-if1 c = search needs
 
--- src/lib.rt:73:21
 mul-goes : tie.Need-mul-goes Inv-loop μ-loop
 mul-goes c = search needs
 
--- src/lib.rt:73:21
 element-copy-out-goes : tie.Need-element-copy-out-goes Inv-loop μ-loop
 element-copy-out-goes c = search needs
 
--- src/lib.rt:73:29
 element-copy-out-goes-2 : tie.Need-element-copy-out-goes-2 Inv-loop μ-loop
 element-copy-out-goes-2 c = search needs
 
--- src/lib.rt:73:16
 goes-requires : tie.Need-goes-requires Inv-loop μ-loop
 goes-requires c κs = search needs
 
--- src/lib.rt:74:17
 returns : tie.Need-returns Inv-loop μ-loop
 returns c =
     let s = c .before .before .before .before .before .before .before .before in
@@ -61,15 +47,12 @@ returns c =
     let g = c .before .goes .ensures .0 (c .if2 .taken) in
     sym (array-crosses (a .key .now) (a .exit .now) (a .next .now) (a .n) (a .q) (a .p) (a .t) (l .i) (c .before .before .before .before .before .before .loop-test .taken) (g .0) (g .1) (c .before .before .before .before .if1 .taken))
 
--- src/lib.rt:77:9
 add-i : tie.Need-add-i Inv-loop μ-loop
 add-i c = search needs
 
--- src/lib.rt:71:5
 loop-less : tie.Need-loop-less Inv-loop μ-loop
 loop-less c = search needs
 
--- src/lib.rt:71:5
 loop-again : tie.Need-loop-again Inv-loop μ-loop
 loop-again c =
     let s = c .before .before .before .before in
@@ -80,7 +63,6 @@ loop-again c =
           (λ x y z. ⊎-elim (λ w. not-both (w .3 .ensures .1 (x, y)) (w .4 .left)) (λ w. w .left z) (c .if1 .came)),
     )
 
--- src/lib.rt:58:1
 returns-2 : tie.Need-returns-2 Inv-loop μ-loop
 returns-2 c =
     let a = c .before .before .args in

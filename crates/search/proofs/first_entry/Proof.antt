@@ -1,23 +1,15 @@
 -- `search::first_entry` meets its contract: every second passed is barred, so that the first that is not is the least.
 -- The seconds up to hi are left to look at.
-use Prim.Native.Nat.{ℕ, _+_, _-_, _*_, _/_, _%_, _≤_, _<_, min, max}
-use mathlib.Core.Path.{_≡_, refl, sym, ap, subst, _∙_}
-use mathlib.Core.Logic.{_⊎_, inl, inr, ⊎-elim}
-use mathlib.Core.Bool.{Bool, true, false, not}
-use mathlib.Core.List.{List}
+use Prim.Native.Nat.{_+_, _-_}
+use mathlib.Core.Path.{sym, _∙_}
+use mathlib.Core.Bool.{not}
 use native.Mathlib.Omega.{arith}
-use lib.ListN.{length, getD, set}
 use borrow.Author.Needs.{needs}
 use borrow.Author.Tests.{not-true, not-false}
 use Rattle.flat.specs.Flat.{rowsIn}
 use Rattle.search.specs.Entries.{Barred, barred-start, barred-next, barred-end, barred-found}
 use Rattle.search.proofs.first_entry.Statement.{statement}
 use Rattle.search.proofs.first_entry.Tie as tie
-use Rattle.search.proofs.first_entry.Reads as reads
-use Rattle.search.proofs.first_entry.Lts as lts
-use Rattle.search.proofs.barred.Reads as barred-reads
-
--- The seconds up to hi are left to look at.
 
 abbrev Inv-window : tie.InvT-window
 Inv-window key exit next n q p lo hi t₀ t = Barred (rowsIn key exit next n) q p lo t
@@ -25,31 +17,24 @@ Inv-window key exit next n q p lo hi t₀ t = Barred (rowsIn key exit next n) q 
 abbrev μ-window : tie.MeasureT-window
 μ-window key exit next n q p lo hi t₀ t = hi + 1 - t
 
--- src/lib.rt:117:5
 window-holds : tie.Need-window-holds Inv-window μ-window
 window-holds c = barred-start _ _ _ _
 
--- src/lib.rt:121:13
 barred-requires : tie.Need-barred-requires Inv-window μ-window
 barred-requires c κs = search needs
 
--- src/lib.rt:124:9
 add-t : tie.Need-add-t Inv-window μ-window
 add-t c = search needs
 
--- src/lib.rt:117:5
 window-less : tie.Need-window-less Inv-window μ-window
 window-less c = search needs
 
--- src/lib.rt:117:5
 window-again : tie.Need-window-again Inv-window μ-window
 window-again c = barred-next (c .before .before .before .window .inv) (sym (c .before .barred .ensures) ∙ not-false _ (c .if2 .left))
 
--- src/lib.rt:102:1
 returns : tie.Need-returns Inv-window μ-window
 returns c = barred-end (c .before .window .inv) (c .if1 .taken)
 
--- src/lib.rt:102:1
 returns-2 : tie.Need-returns-2 Inv-window μ-window
 returns-2 c = barred-found (c .before .before .before .before .pre .1) (c .before .before .before .window .inv) (omega arith) (sym (c .before .barred .ensures) ∙ not-true _ (c .if2 .taken))
 

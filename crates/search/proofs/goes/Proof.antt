@@ -1,23 +1,14 @@
 -- `search::goes` meets its contract: the two tests are the two facts.
-use Prim.Native.Nat.{ℕ, _+_, _-_, _*_, _/_, _%_, _≤_, _<_, min, max}
-use mathlib.Core.Path.{_≡_, refl, sym, ap, subst, _∙_}
-use mathlib.Core.Logic.{_⊎_, inl, inr, ⊎-elim}
-use mathlib.Core.Bool.{Bool, true, false, not}
-use mathlib.Core.List.{List}
+use Prim.Native.Nat.{ℕ, _-_}
+use mathlib.Core.Path.{_≡_}
 use native.Mathlib.Omega.{arith}
-use lib.ListN.{length, getD, set}
-use borrow.Author.Needs.{needs}
 use borrow.Author.Tests.{eqb-true, eq-eqb}
 use Rattle.search.proofs.goes.Statement.{statement}
 use Rattle.search.proofs.goes.Tie as tie
-use Rattle.search.proofs.goes.Reads as reads
-use Rattle.search.proofs.goes.Lts as lts
 
--- src/lib.rt:52:9
 returns : tie.Need-returns
 returns c = (λ e. absurd (let z : _≡_ {A = ℕ} 0 1 = cc in omega arith), λ h. absurd (c .if1 .taken (h .1)))
 
--- src/lib.rt:48:1
 returns-2 : tie.Need-returns-2
 returns-2 c = (λ e. (eqb-true _ _ e, c .if1 .left), λ h. eq-eqb _ _ (h .0))
 

@@ -1,27 +1,16 @@
-use Prim.Native.Nat.{ℕ, suc, _+_, _-_, _*_, _/_, _%_, _≤_, _<_, min, max}
-use mathlib.Core.Path.{_≡_, refl, sym, ap, subst, _∙_}
-use mathlib.Core.Logic.{_⊎_, inl, inr, ⊎-elim}
-use mathlib.Core.Bool.{Bool, true, false, not}
-use mathlib.Core.List.{List}
+-- `search::relax` meets its contract: the links of p are followed from the last to the first, each offering the windows of the place that it leads to;
+-- the other windows have no entry from w. The number of the link falls.
+use Prim.Native.Nat.{ℕ, suc, _+_, _-_, _<_}
+use mathlib.Core.Path.{_≡_, refl, ap, subst, _∙_}
 use native.Mathlib.Omega.{arith}
-use lib.ListN.{length, getD, set}
 use borrow.Author.Needs.{needs}
 use Rattle.laws.specs.Lists.{at}
 use Rattle.flat.specs.Flat.{rowsIn}
 use Rattle.flat.specs.Laws.{last-is}
 use Rattle.flat.specs.Links.{group-place, group-end}
-use Rattle.settle.specs.Blocks.{Blocks}
-use Rattle.search.specs.Offers.{Labels, OfferedTo}
-use Rattle.search.specs.Relax.{Ground, AlongLinks, along-start, along-next, along-end}
+use Rattle.search.specs.Relax.{AlongLinks, along-start, along-next, along-end}
 use Rattle.search.proofs.relax.Statement.{statement}
 use Rattle.search.proofs.relax.Tie as tie
-use Rattle.search.proofs.relax.Reads as reads
-use Rattle.search.proofs.relax.Lts as lts
-use Rattle.search.proofs.broad.Reads as broad-reads
-use Rattle.search.proofs.relax_link.Reads as relax-link-reads
-use Rattle.search.proofs.wide.Reads as wide-reads
-
--- the other windows have no entry from w. The number of the link falls.
 
 abbrev Inv-loop : tie.InvT-loop
 Inv-loop places links windows dur from to head chain place start end first key exit next n w label₀ live₀ least₀ before₀ p here soonest leave cur₀ label live least before cur = AlongLinks (rowsIn key exit next n) places links windows dur from to place start end w (at place w) label₀ live₀ before₀ cur label live least before
@@ -29,31 +18,24 @@ Inv-loop places links windows dur from to head chain place start end first key e
 abbrev μ-loop : tie.MeasureT-loop
 μ-loop places links windows dur from to head chain place start end first key exit next n w label₀ live₀ least₀ before₀ p here soonest leave cur₀ label live least before cur = cur
 
--- src/lib.rt:297:13
 element-copy-out-p : tie.Need-element-copy-out-p Inv-loop μ-loop
 element-copy-out-p c = search needs
 
--- src/lib.rt:298:9
 wide-requires : tie.Need-wide-requires Inv-loop μ-loop
 wide-requires c κs = search needs
 
--- src/lib.rt:299:19
 mul-soonest : tie.Need-mul-soonest Inv-loop μ-loop
 mul-soonest c = search needs
 
--- src/lib.rt:299:19
 element-copy-out-soonest : tie.Need-element-copy-out-soonest Inv-loop μ-loop
 element-copy-out-soonest c = search needs
 
--- src/lib.rt:299:30
 mul-soonest-2 : tie.Need-mul-soonest-2 Inv-loop μ-loop
 mul-soonest-2 c = search needs
 
--- src/lib.rt:299:30
 element-copy-out-soonest-2 : tie.Need-element-copy-out-soonest-2 Inv-loop μ-loop
 element-copy-out-soonest-2 c = search needs
 
--- src/lib.rt:299:19
 add-soonest : tie.Need-add-soonest Inv-loop μ-loop
 add-soonest c =
     let s = c .before .before .before .before in
@@ -62,27 +44,21 @@ add-soonest c =
     let e = ap (at (s .args .dur .now)) (c .before .before .wide .ensures .0) in
     omega (arith, s .pre .1 .0 .1, G .durs (at (s .args .place .now) (s .args .w)) h)
 
--- src/lib.rt:300:17
 mul-leave : tie.Need-mul-leave Inv-loop μ-loop
 mul-leave c = search needs
 
--- src/lib.rt:300:17
 element-copy-out-leave : tie.Need-element-copy-out-leave Inv-loop μ-loop
 element-copy-out-leave c = search needs
 
--- src/lib.rt:301:25
 mul-broad : tie.Need-mul-broad Inv-loop μ-loop
 mul-broad c = search needs
 
--- src/lib.rt:301:25
 element-copy-out-broad : tie.Need-element-copy-out-broad Inv-loop μ-loop
 element-copy-out-broad c = search needs
 
--- src/lib.rt:301:9
 broad-requires : tie.Need-broad-requires Inv-loop μ-loop
 broad-requires c κs = search needs
 
--- src/lib.rt:302:5
 loop-holds : tie.Need-loop-holds Inv-loop μ-loop
 loop-holds c =
     let s = c .before .before .before .before .before .before .before in
@@ -90,15 +66,12 @@ loop-holds c =
     let e : c .broad .result ≡ at (s .args .head .now) (at (s .args .place .now) (s .args .w)) = c .broad .ensures .0 ∙ ap (at (s .args .head .now)) (c .before .before .before .before .before .wide .ensures .0) in
     rw e (along-start (rowsIn (s .args .key .now) (s .args .exit .now) (s .args .next .now) (s .args .n)) G (s .pre .1 .0 .0) refl (s .pre .1 .1 .0) (s .pre .1 .1 .1))
 
--- src/lib.rt:303:17
 sub-j : tie.Need-sub-j Inv-loop μ-loop
 sub-j c = search needs
 
--- src/lib.rt:304:17
 element-copy-out-q : tie.Need-element-copy-out-q Inv-loop μ-loop
 element-copy-out-q c = search needs
 
--- src/lib.rt:305:9
 relax-link-requires : tie.Need-relax-link-requires Inv-loop μ-loop
 relax-link-requires c κs =
     let s = c .before .before .before .before .before .before .before .before .before .before .before .before .before .before in
@@ -118,19 +91,15 @@ relax-link-requires c κs =
       ),
     )
 
--- src/lib.rt:306:21
 mul-broad-2 : tie.Need-mul-broad-2 Inv-loop μ-loop
 mul-broad-2 c = search needs
 
--- src/lib.rt:306:21
 element-copy-out-broad-2 : tie.Need-element-copy-out-broad-2 Inv-loop μ-loop
 element-copy-out-broad-2 c = search needs
 
--- src/lib.rt:306:9
 broad-requires-2 : tie.Need-broad-requires-2 Inv-loop μ-loop
 broad-requires-2 c κs = search needs
 
--- src/lib.rt:302:5
 loop-less : tie.Need-loop-less Inv-loop μ-loop
 loop-less c =
     let s = c .before .before .before .before .before .before .before .before .before .before .before .before .before .before .before .before .before in
@@ -142,7 +111,6 @@ loop-less c =
     let z = last-is (s .args .from .now) (at (s .args .from .now) j) j .within in
     omega (arith, G .chained .link j jk, c .before .before .before .before .before .before .before .before .loop-test .taken)
 
--- src/lib.rt:302:5
 loop-again : tie.Need-loop-again Inv-loop μ-loop
 loop-again c =
     let s = c .before .before .before .before .before .before .before .before .before .before .before .before .before .before .before .before .before in
@@ -155,7 +123,6 @@ loop-again c =
     rw (c .broad2 .ensures .0) (along-next rows (s .pre .0) (s .pre .1 .0 .0) refl (l .inv) ej (ap (λ x. at (a .label .now) (a .w) + at (a .dur .now) x) w)
     (c .before .before .relax-link .ensures .0) (c .before .before .relax-link .ensures .1 .0) (c .before .before .relax-link .ensures .1 .1))
 
--- src/lib.rt:268:1
 returns : tie.Need-returns Inv-loop μ-loop
 returns c =
     let s = c .before .before .before .before .before .before .before .before .before in

@@ -1,28 +1,17 @@
 -- `search::search` meets its contract. The invariant is the search's own (`Going`); a turn settles the open window of least entry, of those the first, and
 -- offers the way through it to every window; fewer windows are open after each turn. It may stop at the destination, since entries only rise.
-use Prim.Native.Nat.{ℕ, suc, _+_, _-_, _*_, _/_, _%_, _≤_, _<_, min, max}
-use mathlib.Core.Path.{_≡_, refl, sym, ap, subst, _∙_}
-use mathlib.Core.Logic.{_⊎_, inl, inr, ⊎-elim}
-use mathlib.Core.Bool.{Bool, true, false, not}
-use mathlib.Core.List.{List}
+use Prim.Native.Nat.{_-_}
+use mathlib.Core.Path.{sym, _∙_}
 use native.Mathlib.Omega.{arith}
-use lib.ListN.{length, getD, set}
 use borrow.Author.Needs.{needs}
 use borrow.Author.Tests.{eq-eqb, ne-eqb}
 use Rattle.laws.specs.Lists.{at}
 use Rattle.flat.specs.Flat.{rowsIn, yardIn}
-use Rattle.settle.specs.Blocks.{Blocks, Picked}
 use Rattle.settle.specs.Search.{Going, doneOf, opens, going-start, going-none, going-goal, closed-above, going-less, going-turn, in-n, low-u}
 use Rattle.search.specs.Relax.{nextBy}
-use Rattle.search.specs.Lanes.{Lanes, atDest, lanes-ground, lanes-runs, lanes-mono, lanes-later}
-use Rattle.settle.proofs.close.Reads as close-reads
-use Rattle.settle.proofs.pick.Reads as pick-reads
+use Rattle.search.specs.Lanes.{atDest, lanes-ground, lanes-runs, lanes-mono, lanes-later}
 use Rattle.search.proofs.search.Statement.{statement}
 use Rattle.search.proofs.search.Tie as tie
-use Rattle.search.proofs.search.Reads as reads
-use Rattle.search.proofs.search.Lts as lts
-use Rattle.search.proofs.relax.Reads as relax-reads
-use Rattle.search.proofs.wide.Reads as wide-reads
 
 abbrev Inv-loop : tie.InvT-loop
 Inv-loop places links windows cap dur from to head chain place start end first key exit next n src s dest label₀ before₀ blocks live₀ least₀ label before live least = Going windows (nextBy (yardIn cap dur places from to links) (rowsIn key exit next n) place start end) (atDest place dest) src s label live least before
@@ -30,49 +19,39 @@ Inv-loop places links windows cap dur from to head chain place start end first k
 abbrev μ-loop : tie.MeasureT-loop
 μ-loop places links windows cap dur from to head chain place start end first key exit next n src s dest label₀ before₀ blocks live₀ least₀ label before live least = opens (doneOf label live) windows
 
--- src/lib.rt:344:19
 add-blocks : tie.Need-add-blocks Inv-loop μ-loop
 add-blocks c = omega (arith, c .pre .0 .few)
 
--- src/lib.rt:347:5
 mul-label : tie.Need-mul-label Inv-loop μ-loop
 mul-label c = omega (arith, c .pre .0 .few)
 
--- src/lib.rt:347:5
 element-write-label : tie.Need-element-write-label Inv-loop μ-loop
 element-write-label c = omega (arith, c .pre .0 .few)
 
--- src/lib.rt:348:5
 mul-live : tie.Need-mul-live Inv-loop μ-loop
 mul-live c = omega (arith, c .pre .0 .few)
 
--- src/lib.rt:348:5
 array-write-live : tie.Need-array-write-live Inv-loop μ-loop
 array-write-live c = omega (arith, c .pre .0 .few)
 
--- src/lib.rt:349:5
 mul-least : tie.Need-mul-least Inv-loop μ-loop
 mul-least c = omega (arith, c .pre .0 .few)
 
--- src/lib.rt:349:5
 array-write-least : tie.Need-array-write-least Inv-loop μ-loop
 array-write-least c = omega (arith, c .pre .0 .few)
 
--- src/lib.rt:350:5
 loop-holds : tie.Need-loop-holds Inv-loop μ-loop
 loop-holds c =
     let P = c .pre in
     let L = P .0 in
     going-start (L .few) (P .1 .0 .0) (P .1 .0 .1) (lanes-mono L) (lanes-later L) (c .args .label .now) (c .args .before .now) (P .1 .1 .1 .1 .0) (P .1 .1 .1 .1 .1) (P .1 .1 .1 .0) (P .1 .1 .0)
 
--- src/lib.rt:351:13
 pick-requires : tie.Need-pick-requires Inv-loop μ-loop
 pick-requires c κs =
     let L = c .before .before .before .pre .0 in
     let P = c .before .before .before .pre in
     (omega (arith, P .1 .0 .0), (omega (arith, L .few), c .before .before .loop .inv .blocks))
 
--- src/lib.rt:353:13
 returns : tie.Need-returns Inv-loop μ-loop
 returns c =
     let p = c .before .pick in
@@ -81,15 +60,12 @@ returns c =
     let L = P .0 in
     going-none (L .few) (P .1 .0 .0) (P .1 .0 .1) (lanes-mono L) (lanes-later L) g (omega arith) (p .ensures) (omega (arith, p .ensures .within, c .if1 .taken))
 
--- src/lib.rt:355:17
 element-copy-out-wide : tie.Need-element-copy-out-wide Inv-loop μ-loop
 element-copy-out-wide c = c .if1 .left
 
--- src/lib.rt:355:12
 wide-requires : tie.Need-wide-requires Inv-loop μ-loop
 wide-requires c κs = search needs
 
--- src/lib.rt:356:13
 returns-2 : tie.Need-returns-2 Inv-loop μ-loop
 returns-2 c =
     let p = c .before .before .before .before .pick in
@@ -98,11 +74,9 @@ returns-2 c =
     let L = P .0 in
     going-goal (L .few) (P .1 .0 .0) (P .1 .0 .1) (lanes-mono L) (lanes-later L) g (omega arith) (p .ensures) (c .before .before .before .if1 .left) (eq-eqb _ _ (sym (c .before .wide .ensures .0) ∙ c .if2 .taken))
 
--- src/lib.rt:358:9
 close-requires : tie.Need-close-requires Inv-loop μ-loop
 close-requires c κs = (c .before .before .before .before .before .if1 .left, c .before .before .before .before .before .before .before .before .before .loop .inv .blocks)
 
--- src/lib.rt:359:9
 relax-requires : tie.Need-relax-requires Inv-loop μ-loop
 relax-requires c κs =
     let p = c .before .before .before .before .before .before .before .before .before .before .before .pick in
@@ -118,7 +92,6 @@ relax-requires c κs =
       ),
     )
 
--- src/lib.rt:350:5
 loop-less : tie.Need-loop-less Inv-loop μ-loop
 loop-less c =
     let p = c .before .before .before .before .before .before .before .before .before .before .before .before .pick in
@@ -129,7 +102,6 @@ loop-less c =
     let e = c .before .before .before .before .before .close .ensures in
     going-less (L .few) (P .1 .0 .0) (P .1 .0 .1) (lanes-mono L) (lanes-later L) g (omega arith) (p .ensures) k (e .0) (c .relax .ensures .0 .through _ (lanes-runs L))
 
--- src/lib.rt:350:5
 loop-again : tie.Need-loop-again Inv-loop μ-loop
 loop-again c =
     let p = c .before .before .before .before .before .before .before .before .before .before .before .before .pick in

@@ -1,39 +1,26 @@
-use Prim.Native.Nat.{ℕ, _+_, _-_, _*_, _/_, _%_, _≤_, _<_, min, max}
-use mathlib.Core.Path.{_≡_, refl, sym, ap, subst, _∙_}
-use mathlib.Core.Logic.{_⊎_, inl, inr, ⊎-elim}
-use mathlib.Core.Bool.{Bool, true, false, not}
-use mathlib.Core.List.{List}
-use native.Mathlib.Omega.{arith}
-use lib.ListN.{length, getD, set}
+-- `search::try_window` meets its contract: where the label is no later than lo the entry is not taken, whatever it is; else it is worked out and
+-- offered.
+use Prim.Native.Nat.{_-_}
 use borrow.Author.Needs.{needs}
-use Rattle.search.specs.Offers.{Tried, Labels, tried-left, tried-at, offered-labels}
-use Rattle.settle.proofs.offer.Reads as offer-reads
+use Rattle.search.specs.Offers.{tried-left, tried-at, offered-labels}
 use Rattle.search.proofs.try_window.Statement.{statement}
 use Rattle.search.proofs.try_window.Tie as tie
-use Rattle.search.proofs.try_window.Reads as reads
-use Rattle.search.proofs.try_window.Lts as lts
-use Rattle.search.proofs.first_entry.Reads as first-entry-reads
 
--- src/lib.rt:153:13
 mul-if1 : tie.Need-mul-if1
 mul-if1 c = search needs
 
--- src/lib.rt:153:13
 element-copy-out-if1 : tie.Need-element-copy-out-if1
 element-copy-out-if1 c = search needs
 
--- src/lib.rt:154:13
 first-entry-requires : tie.Need-first-entry-requires
 first-entry-requires c κs = search needs
 
--- src/lib.rt:155:9
 offer-requires : tie.Need-offer-requires
 offer-requires c κs =
     let P = c .before .before .before .before .before .before .before .pre in
     let v = c .before .before .before .before .before .before .before .args .v in
     (P .1 .1 .0 .0, (P .1 .1 .0 .1, (P .1 .1 .1 .1, P .1 .1 .1 .0 .above v)))
 
--- src/lib.rt:129:1
 returns : tie.Need-returns
 returns c =
     let P = c .before .before .before .before .before .before .before .before .pre in (
@@ -41,7 +28,6 @@ returns c =
       (offered-labels (P .1 .1 .0 .0) (P .1 .1 .1 .1 .len-op) (P .1 .1 .1 .0) (c .offer .ensures .0), c .offer .ensures .1),
     )
 
--- src/lib.rt:129:1
 returns-2 : tie.Need-returns-2
 returns-2 c =
     let s = c .before .before in

@@ -1,30 +1,18 @@
 -- `vet::vet` meets its contract: the map's test decides first, then the book's, which also finds the windows.
-use Prim.Native.Nat.{ℕ, suc, _+_, _-_, _*_, _/_, _%_, _≤_, _<_, min, max}
-use mathlib.Core.Path.{_≡_, refl, sym, ap, subst, _∙_}
-use mathlib.Core.Logic.{_⊎_, inl, inr, ⊎-elim}
-use mathlib.Core.Bool.{Bool, true, false, not}
-use mathlib.Core.List.{List}
-use native.Mathlib.Omega.{arith}
-use lib.ListN.{length, getD, set}
+use Prim.Native.Nat.{_-_}
+use mathlib.Core.Path.{refl}
 use borrow.Author.Needs.{needs}
-use Rattle.vet.specs.Vetted.{Vetted, vet-map, vet-book}
+use Rattle.vet.specs.Vetted.{vet-map, vet-book}
 use borrow.Author.Tests.{not-true, not-false}
-use Rattle.bookfit.proofs.book_fits.Reads as book-fits-reads
-use Rattle.mapfit.proofs.map_fits.Reads as map-fits-reads
 use Rattle.vet.proofs.vet.Statement.{statement}
 use Rattle.vet.proofs.vet.Tie as tie
-use Rattle.vet.proofs.vet.Reads as reads
-use Rattle.vet.proofs.vet.Lts as lts
 
--- src/lib.rt:35:9
 map-fits-requires : tie.Need-map-fits-requires
 map-fits-requires c κs = search needs
 
--- src/lib.rt:36:9
 returns : tie.Need-returns
 returns c = vet-map (c .before .map-fits .ensures) _ _ _ _ _ _ _ _ _ (not-true _ (c .if1 .taken))
 
--- src/lib.rt:39:5
 book-fits-requires : tie.Need-book-fits-requires
 book-fits-requires c κs =
     let P = c .before .before .before .before .before .before .before .before .before .before .before .pre in
@@ -32,7 +20,6 @@ book-fits-requires c κs =
     let e = not-false _ (c .before .before .before .before .before .before .before .if1 .left) in
     (m .kept e, (m .chained e, (P .1 .1 .0, (refl, (P .1 .1 .1 .0, (P .1 .1 .1 .1, (P .1 .1 .1 .2, P .1 .1 .1 .3)))))))
 
--- src/lib.rt:10:1
 returns-2 : tie.Need-returns-2
 returns-2 c = vet-book (c .before .before .before .before .before .before .before .before .before .map-fits .ensures) (not-false _ (c .before .before .before .before .before .before .before .before .if1 .left)) (c .book-fits .ensures)
 

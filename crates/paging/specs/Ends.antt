@@ -1,0 +1,41 @@
+-- What the page call answers at each of its ends. Each refusal says that its own condition fails where those before it in the call's order
+-- hold; so the ends are given in that order, each under what the ones before it have tested.
+use Prim.Native.Nat.{ℕ, _/_, _≤_, _<_}
+use mathlib.Core.Path.{_≡_, refl, sym}
+use mathlib.Core.Logic.{_⊎_, inl, inr}
+use mathlib.Core.List.{List}
+use native.Mathlib.Omega.{arith}
+use lib.ListN.{length}
+use Rattle.rules.specs.declared.Row.{Row}
+use Rattle.rules.specs.declared.Shown.{Shown}
+use Rattle.rules.specs.declared.Paged.the-variants.{Done, Refused}
+use Rattle.rules.specs.declared.Refusal.the-variants.{BadMap, BadBook, ShortList, BadSize, BadCursor}
+use Rattle.rules.specs.Map.{Yard}
+use Rattle.rules.specs.Rows.{Key}
+use Rattle.rules.specs.Answer.{PageSays, PageSound, PageDone, CursorFits, records}
+
+-- ---- where map and book are sound
+
+module _ (rows : List Row) {Y : Yard} {size : ℕ} {k : Key} {was out : List ℕ} where
+  pub page-bad-size : ((1 ≤ size) × (size ≤ 64) → ⊥) → was ≡ out → PageSound Y rows size k was out (Refused BadSize)
+  page-bad-size h e = inl (h, record { code = refl; counts = refl; says = refl; hands = refl; holds = sym e })
+
+  module _ (from : 1 ≤ size) (to : size ≤ 64) where
+    pub page-bad-cursor : (CursorFits Y k → ⊥) → was ≡ out → PageSound Y rows size k was out (Refused BadCursor)
+    page-bad-cursor h e = inr ((from, to), inl (h, record { code = refl; counts = refl; says = refl; hands = refl; holds = sym e }))
+
+    module _ (fits : CursorFits Y k) where
+      pub page-short : records was < size → was ≡ out → PageSound Y rows size k was out (Refused ShortList)
+      page-short h e = inr ((from, to), inr (fits, inl (λ g. omega arith, record { code = refl; counts = refl; says = refl; hands = refl; holds = sym e })))
+
+      pub page-shown : {s : Shown} → size ≤ records was → PageDone rows size k was out (Done s) → PageSound Y rows size k was out (Done s)
+      page-shown h d = inr ((from, to), inr (fits, inr (h, d)))
+
+-- ---- with the map and the book tested first
+
+module _ (rows : List Row) {map-ok book-ok : Type 0} {Y : Yard} {size : ℕ} {k : Key} {was out : List ℕ} where
+  pub page-bad-map : (map-ok → ⊥) → was ≡ out → PageSays map-ok book-ok Y rows size k was out (Refused BadMap)
+  page-bad-map h e = inl (h, record { code = refl; counts = refl; says = refl; hands = refl; holds = sym e })
+
+  pub page-bad-book : map-ok → (book-ok → ⊥) → was ≡ out → PageSays map-ok book-ok Y rows size k was out (Refused BadBook)
+  page-bad-book m h e = inr (m, inl (h, record { code = refl; counts = refl; says = refl; hands = refl; holds = sym e }))

@@ -1,0 +1,188 @@
+-- What is proved: each demand as a theorem about the calls' own contracts (rules/specs/Answer.antt). Open this file first.
+-- That the calls meet these contracts, take every input and end is proved where they stand: crates/planning, booking, paging, portal, frames.
+use Prim.Native.Nat.{ℕ, zero, suc, _+_, _≤_, _<_}
+use mathlib.Core.Path.{_≡_, refl, sym, ap, subst, _∙_}
+use mathlib.Core.Logic.{_⊎_, inl, inr, ⊎-elim}
+use mathlib.Core.Bool.{Bool}
+use mathlib.Core.List.{List, [], List·Memᴰ}
+use native.Mathlib.Omega.{arith}
+use lib.ListN.{length}
+use Rattle.rules.specs.declared.Map.{Map}
+use Rattle.rules.specs.declared.Book.{Book}
+use Rattle.rules.specs.declared.Row.{Row}
+use Rattle.rules.specs.declared.Planned.{Planned}
+use Rattle.rules.specs.declared.Paged.{Paged}
+use Rattle.rules.specs.declared.Booking.{Booking}
+use Rattle.rules.specs.declared.Cancelling.{Cancelling}
+use Rattle.rules.specs.Limits.{day}
+use Rattle.rules.specs.Map.{Yard, GoodMap, mapYard}
+use Rattle.rules.specs.Rows.{Key, firstKey, keep, insertAll}
+use Rattle.rules.specs.Plan.{Stay, Permitted, arrival, runRows}
+use Rattle.rules.specs.Book.{GoodBook, rowsOf, bookOf, otherTicket}
+use Rattle.rules.specs.Page.{pageRows, pageMore, lastKey}
+use Rattle.rules.specs.Chosen.{Chosen}
+use Rattle.rules.specs.Answer.{Unless, written, PlanIs, Planning, plannedNumber, plannedArrival, plannedCount, BookIs, BookingIs, bookedNumber, bookedTicket, bookedArrival, bookedCount, CancelIs, CancellingIs, cancelledNumber, cancelledCount, PageIs, PagingIs, pagedNumber, pagedCount, pagedMore, pagedCursor}
+use Rattle.lanes.specs.Yards.{yard-rules}
+use Rattle.lanes.specs.Chosen.{chosen-best}
+use Rattle.keeping.specs.Calls.{unless, empty-good, booking-good, cancelling-good}
+use Rattle.keeping.specs.Books.{rows-of-book}
+use Rattle.keeping.specs.Keeping.{book-rows, rows-book, cancel-rows, rows-cancel}
+use Rattle.walks.specs.Walk.{Walk, Walked}
+use Rattle.walks.specs.WalkLaws.{walked}
+use Rattle.unique.specs.Unique.{no-second-plan, no-second-booking, no-second-cancelling, no-second-page}
+
+-- ---- demand 2: "the plan given overfills no place, meets no booked wagon in a head-on exchange, and no permitted plan arrives sooner"
+
+pub record Given (m : Map) (b : Book) (start dest s : ℕ) (was out : List ℕ) (r : Planned) : Type 0 where
+  pub plan : List Stay
+  pub permitted : Permitted (mapYard m) (rowsOf b) start dest s plan
+  pub soonest : (other : List Stay) → Permitted (mapYard m) (rowsOf b) start dest s other → arrival plan ≤ arrival other
+  pub chosen : Chosen (mapYard m) (rowsOf b) start dest s plan
+  pub arrives : plannedArrival r ≡ arrival plan
+  pub counts : plannedCount r ≡ length plan
+  pub holds : out ≡ written (runRows 0 plan) was
+
+module _ {m : Map} {b : Book} {start dest s : ℕ} {was out : List ℕ} {r : Planned} (P : PlanIs m b start dest s was out r) where
+  pub plan-is-best : plannedNumber r ≡ 0 → Given m b start dest s was out r
+  plan-is-best z =
+      unless wrong (λ M. unless wrong (λ B. unless wrong (λ on. unless wrong (λ d. unless wrong (λ some c. unless wrong (λ fits x. given M B on (c .0) (c .1) x) (c .2)))))) P
+    where
+      wrong : {n a c : ℕ} {l : List ℕ} → Planning (suc n) a c l out r → Given m b start dest s was out r
+      wrong x = absurd (omega (arith, x .code))
+
+      given : GoodMap m → GoodBook (mapYard m) b → (start < mapYard m .places) × (dest < mapYard m .places) → (plan : List Stay) → Chosen (mapYard m) (rowsOf b) start dest s plan
+          → Planning 0 (arrival plan) (length plan) (written (runRows 0 plan) was) out r → Given m b start dest s was out r
+      given M B on plan c x =
+          let best = chosen-best (mapYard m) (rowsOf b) start dest s (yard-rules (M .rules) .from-on) (on .1) (B .formed .room) c in
+          record { plan = plan; permitted = best .0; soonest = best .1; chosen = c; arrives = x .arrives; counts = x .counts; holds = x .holds }
+
+  -- "'no plan' is given exactly when none exists by the day's end"
+  pub no-plan-exists : plannedNumber r ≡ 5 → (plan : List Stay) → Permitted (mapYard m) (rowsOf b) start dest s plan → ⊥
+  no-plan-exists z plan p =
+      ⊎-elim (λ x. omega (arith, x .1 .code)) (λ x. ⊎-elim (λ y. omega (arith, y .1 .code)) (λ y. ⊎-elim (λ u. omega (arith, u .1 .code)) (λ u. ⊎-elim (λ v. omega (arith, v .1 .code))
+      (λ v. ⊎-elim (λ w. w .0 (plan, p)) (λ w. ⊎-elim (λ q. omega (arith, q .1 .code)) (λ q. omega (arith, q .1 .code)) (w .1 .2)) (v .1)) (u .1)) (y .1)) (x .1)) P
+
+  pub none-is-refused : GoodMap m → GoodBook (mapYard m) b → (start < mapYard m .places) × (dest < mapYard m .places) → s ≤ day
+      → ((plan : List Stay) → Permitted (mapYard m) (rowsOf b) start dest s plan → ⊥) → plannedNumber r ≡ 5
+  none-is-refused M B on d f =
+      ⊎-elim (λ x. absurd (x .0 M)) (λ x. ⊎-elim (λ y. absurd (y .0 B)) (λ y. ⊎-elim (λ u. absurd (u .0 on)) (λ u. ⊎-elim (λ v. absurd (v .0 d))
+      (λ v. ⊎-elim (λ w. w .1 .code) (λ w. absurd (f (w .0 .0) (w .0 .1))) (v .1)) (u .1)) (y .1)) (x .1)) P
+
+  -- demand 1: "a refusal changes neither the book nor the caller's answer buffer"
+  pub refusal-leaves-the-list : 0 < plannedNumber r → out ≡ was
+  refusal-leaves-the-list z =
+      unless left (λ M. unless left (λ B. unless left (λ on. unless left (λ d. unless left (λ some c. unless left (λ fits x. absurd (omega (arith, x .code))) (c .2)))))) P
+    where
+      left : {n a c : ℕ} → Planning n a c was out r → out ≡ was
+      left x = x .holds
+
+-- ---- demand 2: "Booking adds that plan's rows only"
+
+pub record Added (m : Map) (b : Book) (start dest s : ℕ) (r : Booking) : Type 0 where
+  pub plan : List Stay
+  pub chosen : Chosen (mapYard m) (rowsOf b) start dest s plan
+  pub issues : bookedTicket (r .answer) ≡ b .«next_ticket»
+  pub arrives : bookedArrival (r .answer) ≡ arrival plan
+  pub counts : bookedCount (r .answer) ≡ length plan
+  pub old-stay : (x : Row) → List·Memᴰ x (rowsOf b) → List·Memᴰ x (rowsOf (r .book))
+  pub new-stand : (x : Row) → List·Memᴰ x (runRows (b .«next_ticket») plan) → List·Memᴰ x (rowsOf (r .book))
+  pub no-others : (x : Row) → List·Memᴰ x (rowsOf (r .book)) → List·Memᴰ x (rowsOf b) ⊎ List·Memᴰ x (runRows (b .«next_ticket») plan)
+  pub next-up : r .book .«next_ticket» ≡ b .«next_ticket» + 1
+
+module _ {m : Map} {b : Book} {start dest s : ℕ} {r : Booking} (P : BookIs m b start dest s r) where
+  pub booking-adds : bookedNumber (r .answer) ≡ 0 → Added m b start dest s r
+  booking-adds z = unless wrong (λ M. unless wrong (λ B. unless wrong (λ on. unless wrong (λ d. unless wrong (λ t. unless wrong (λ some c. unless wrong (λ fits x. added (c .0) (c .1) x) (c .2))))))) P
+    where
+      wrong : {n k a c : ℕ} {l : Book} → BookingIs (suc n) k a c l r → Added m b start dest s r
+      wrong x = absurd (omega (arith, x .code))
+
+      added : (plan : List Stay) → Chosen (mapYard m) (rowsOf b) start dest s plan
+          → BookingIs 0 (b .«next_ticket») (arrival plan) (length plan) (bookOf (insertAll (runRows (b .«next_ticket») plan) (rowsOf b)) (b .«next_ticket» + 1)) r → Added m b start dest s r
+      added plan c x =
+          let t = b .«next_ticket» in
+          let rows = insertAll (runRows t plan) (rowsOf b) in
+          let e : rowsOf (r .book) ≡ rows = ap rowsOf (x .holds) ∙ rows-of-book rows (t + 1) in
+          record {
+            plan = plan;
+            chosen = c;
+            issues = x .issues;
+            arrives = x .arrives;
+            counts = x .counts;
+            old-stay = λ y h. subst (λ (l : List Row). List·Memᴰ y l) (sym e) (rows-book t plan (rowsOf b) y (inl h));
+            new-stand = λ y h. subst (λ (l : List Row). List·Memᴰ y l) (sym e) (rows-book t plan (rowsOf b) y (inr h));
+            no-others = λ y h. book-rows t plan (rowsOf b) y (subst (λ (l : List Row). List·Memᴰ y l) e h);
+            next-up = ap (λ (z : Book). z .«next_ticket») (x .holds);
+          }
+
+  pub refused-booking-changes-nothing : 0 < bookedNumber (r .answer) → r .book ≡ b
+  refused-booking-changes-nothing z =
+      unless left (λ M. unless left (λ B. unless left (λ on. unless left (λ d. unless left (λ t. unless left (λ some c. unless left (λ fits x. absurd (omega (arith, x .code))) (c .2))))))) P
+    where
+      left : {n k a c : ℕ} → BookingIs n k a c b r → r .book ≡ b
+      left x = x .holds
+
+-- ---- demand 2: "cancelling removes that ticket's rows only"
+
+pub record Taken (b : Book) (ticket : ℕ) (r : Cancelling) : Type 0 where
+  pub gone : (x : Row) → List·Memᴰ x (rowsOf (r .book)) → List·Memᴰ x (rowsOf b) × (x .ticket ≡ ticket → ⊥)
+  pub others-stay : (x : Row) → List·Memᴰ x (rowsOf b) × (x .ticket ≡ ticket → ⊥) → List·Memᴰ x (rowsOf (r .book))
+  -- the ticket number is never issued again: the next ticket stays above it
+  pub next-stays : r .book .«next_ticket» ≡ b .«next_ticket»
+
+module _ {m : Map} {b : Book} {ticket : ℕ} {r : Cancelling} (P : CancelIs m b ticket r) where
+  pub cancelling-removes : cancelledNumber (r .answer) ≡ 0 → Taken b ticket r
+  cancelling-removes z = unless wrong (λ M. unless wrong (λ B. unless wrong (λ known x. taken x))) P
+    where
+      wrong : {n c : ℕ} {l : Book} → CancellingIs (suc n) c l r → Taken b ticket r
+      wrong x = absurd (omega (arith, x .code))
+
+      taken : {c : ℕ} → CancellingIs 0 c (bookOf (keep (otherTicket ticket) (rowsOf b)) (b .«next_ticket»)) r → Taken b ticket r
+      taken x =
+          let rows = keep (otherTicket ticket) (rowsOf b) in
+          let e : rowsOf (r .book) ≡ rows = ap rowsOf (x .holds) ∙ rows-of-book rows (b .«next_ticket») in
+          record {
+            gone = λ y h. cancel-rows ticket (rowsOf b) y (subst (λ (l : List Row). List·Memᴰ y l) e h);
+            others-stay = λ y h. subst (λ (l : List Row). List·Memᴰ y l) (sym e) (rows-cancel ticket (rowsOf b) y h);
+            next-stays = ap (λ (z : Book). z .«next_ticket») (x .holds);
+          }
+
+-- ---- demand 2: "a page shows exactly the next rows after its cursor"
+
+pub page-shows : {m : Map} {b : Book} {size : ℕ} {k : Key} {was out : List ℕ} {r : Paged} → PageIs m b size k was out r → pagedNumber r ≡ 0
+    → PagingIs 0 (length (pageRows size k (rowsOf b))) (pageMore size k (rowsOf b)) (lastKey k (pageRows size k (rowsOf b))) (written (pageRows size k (rowsOf b)) was) out r
+page-shows {m} {b} {size} {k} {was} {out} {r} P z = unless wrong (λ M. unless wrong (λ B. unless wrong (λ sized. unless wrong (λ fits. unless wrong (λ room x. x))))) P
+  where
+    wrong : {n c : ℕ} {more : Bool} {j : Key} {l : List ℕ} → PagingIs (suc n) c more j l out r
+        → PagingIs 0 (length (pageRows size k (rowsOf b))) (pageMore size k (rowsOf b)) (lastKey k (pageRows size k (rowsOf b))) (written (pageRows size k (rowsOf b)) was) out r
+    wrong x = absurd (omega (arith, x .code))
+
+-- ---- the book is always well formed: from an empty one on, and through every call
+
+pub the-empty-book-is-good : (Y : Yard) → GoodBook Y (bookOf [] 1)
+the-empty-book-is-good = empty-good
+
+pub a-booking-keeps-it-good : {m : Map} {b : Book} {start dest s : ℕ} {r : Booking} → BookIs m b start dest s r → GoodBook (mapYard m) b → GoodBook (mapYard m) (r .book)
+a-booking-keeps-it-good = booking-good
+
+pub a-cancellation-keeps-it-good : {m : Map} {b : Book} {ticket : ℕ} {r : Cancelling} → CancelIs m b ticket r → GoodBook (mapYard m) b → GoodBook (mapYard m) (r .book)
+a-cancellation-keeps-it-good = cancelling-good
+
+-- ---- demand 3: "Take a walk over one book from the first cursor to a page that says no more .. while others plan, book and cancel between pages."
+-- `Walked` (walks/specs/Walk.antt) has its five sentences.
+
+pub every-walk-is-true : {m : Map} {b : Book} (w : Walk m firstKey b) → Walked w
+every-walk-is-true = walked
+
+-- ---- "Prove that no second answer satisfies it"
+
+pub one-plan : {m : Map} {b : Book} {start dest s : ℕ} {was out out′ : List ℕ} {r r′ : Planned} → PlanIs m b start dest s was out r → PlanIs m b start dest s was out′ r′ → (r ≡ r′) × (out ≡ out′)
+one-plan {m} {b} {start} {dest} {s} {was} {out} {out′} {r} {r′} = no-second-plan (GoodMap m) (GoodBook (mapYard m) b) (mapYard m) (rowsOf b) start dest s was out out′ r r′ (λ M. yard-rules (M .rules) .long)
+
+pub one-booking : {m : Map} {b : Book} {start dest s : ℕ} {r r′ : Booking} → BookIs m b start dest s r → BookIs m b start dest s r′ → r ≡ r′
+one-booking {m} {b} {start} {dest} {s} {r} {r′} = no-second-booking m b start dest s r r′
+
+pub one-cancellation : {m : Map} {b : Book} {ticket : ℕ} {r r′ : Cancelling} → CancelIs m b ticket r → CancelIs m b ticket r′ → r ≡ r′
+one-cancellation {m} {b} {ticket} {r} {r′} = no-second-cancelling m b ticket r r′
+
+pub one-page : {m : Map} {b : Book} {size : ℕ} {k : Key} {was out out′ : List ℕ} {r r′ : Paged} → PageIs m b size k was out r → PageIs m b size k was out′ r′ → (r ≡ r′) × (out ≡ out′)
+one-page {m} {b} {size} {k} {was} {out} {out′} {r} {r′} = no-second-page (GoodMap m) (GoodBook (mapYard m) b) (mapYard m) (rowsOf b) size k was out out′ r r′
