@@ -6,10 +6,12 @@ ghost use mathlib.Core.List.{List, [], _∷_, _++_};
 ghost use lib.ListN.{length, take, drop};
 ghost use Rattle.rules.specs.Rows.{bit};
 ghost use Rattle.rules.specs.Answer.{number, plannedNumber, plannedArrival, plannedCount, bookedNumber, bookedTicket, bookedArrival, bookedCount, cancelledNumber, cancelledCount, pagedNumber, pagedCount, pagedMore};
-ghost use Rattle.rules.specs.Frames.{digit, hexOf, lineOf, after00, bytes2, bytes3};
+ghost use Rattle.rules.specs.Frames.{digit, hexOf, lineOf, rowLines, after00, bytes2, bytes3, Said, PlaceFrame, LinkFrame, PlanFrame, BookFrame, CancelFrame, PageFrame};
 ghost use Rattle.frames.specs.Hex.{Value};
 ghost use Rattle.frames.specs.Lines.{LineIs, Decoded, FormIs};
 ghost use Rattle.frames.specs.Heads.{HeadIs};
+ghost use Rattle.frames.specs.Told.{Answers, Spoken};
+ghost use Rattle.frames.specs.Saying.{Tells};
 ghost use Rattle.frames.specs.Put.{Put, Digits, RowsPut};
 
 // The digits of a line, of which a frame has at most 18: len 19 stands for any longer line.
@@ -319,4 +321,165 @@ fn page_rows(p: Paged) -> usize
         Paged::Done(s) => s.count,
         Paged::Refused(_) => 0,
     }
+}
+
+// An answer's lines: the first, and the row lines.
+fn put_answer(h: Head, list: &[u8], rows: usize, out: &mut [u8]) -> usize
+    requires { ⌜ (h .count ≤ 9) × (length (h .bytes) ≡ 9) ⌝ }
+    requires { ⌜ 11 * rows ≤ length (now list) ⌝ }
+    requires { ⌜ 19 + 23 * rows ≤ length (now out) ⌝ }
+    ensures { λ r. ⌜ Answers (lineOf (take (h .count) (h .bytes)) ++ rowLines rows (now (list .entry))) (now (out .entry)) (now (out .exit)) r ⌝ }
+{
+    let n = h.count;
+    let bytes = h.bytes;
+    put_line(&bytes, 0, n, 0, out);
+    let at = 2 * n + 1;
+    put_rows(list, rows, at, out);
+    at + 23 * rows
+}
+
+// ---- frames
+
+// The state after a line, and how many bytes of its answer are in the caller's list.
+pub struct Told {
+    pub state: State,
+    pub len: usize,
+}
+
+// A line of one byte.
+fn put_number(x: u8, out: &mut [u8]) -> usize
+    requires { ⌜ 3 ≤ length (now out) ⌝ }
+    ensures { λ r. ⌜ Answers (lineOf (x ∷ [])) (now (out .entry)) (now (out .exit)) r ⌝ }
+{
+    let list = [x; 1];
+    put_line(&list, 0, 1, 0, out);
+    3
+}
+
+// "A line refused with 12 changes nothing."
+fn refused(s: State, out: &mut [u8]) -> Told
+    requires { ⌜ 30000 ≤ length (now out) ⌝ }
+    ensures { λ r. ⌜ Spoken (Said s (lineOf (12 ∷ []))) (now (out .entry)) (now (out .exit)) r ⌝ }
+{
+    let len = put_number(12, out);
+    Told { state: s, len: len }
+}
+
+fn place_frame(s: State, b: &[u8; 9], out: &mut [u8]) -> Told
+    requires { ⌜ length (now b) ≡ 9 ⌝ }
+    requires { ⌜ 30000 ≤ length (now out) ⌝ }
+    ensures { λ r. ⌜ Spoken (PlaceFrame s (now (b .entry))) (now (out .entry)) (now (out .exit)) r ⌝ }
+{
+    if s.closed {
+        return refused(s, out);
+    }
+    let mut m = s.map;
+    let n = m.place_count;
+    if n >= 256 {
+        return refused(s, out);
+    }
+    let duration = wire::two(b, 2) as u16;
+    m.places[n] = Place { capacity: b[1], duration: duration };
+    m.place_count = n + 1;
+    let book = s.book;
+    let len = put_number(0, out);
+    Told { state: State { map: m, book: book, closed: false }, len: len }
+}
+
+fn link_frame(s: State, b: &[u8; 9], out: &mut [u8]) -> Told
+    requires { ⌜ length (now b) ≡ 9 ⌝ }
+    requires { ⌜ 30000 ≤ length (now out) ⌝ }
+    ensures { λ r. ⌜ Spoken (LinkFrame s (now (b .entry))) (now (out .entry)) (now (out .exit)) r ⌝ }
+{
+    if s.closed {
+        return refused(s, out);
+    }
+    let mut m = s.map;
+    let n = m.link_count;
+    if n >= 1024 {
+        return refused(s, out);
+    }
+    m.links[n] = Link { from: b[1], to: b[2] };
+    m.link_count = n + 1;
+    let book = s.book;
+    let len = put_number(0, out);
+    Told { state: State { map: m, book: book, closed: false }, len: len }
+}
+
+fn wide(x: u8) -> u32
+    ensures { λ r. ⌜ r ≡ x ⌝ }
+{
+    x as u32
+}
+
+fn plan_frame(s: State, b: &[u8; 9], out: &mut [u8]) -> Told
+    requires { ⌜ length (now b) ≡ 9 ⌝ }
+    requires { ⌜ 30000 ≤ length (now out) ⌝ }
+    ensures { λ r. ⌜ Spoken (PlanFrame s (now (b .entry))) (now (out .entry)) (now (out .exit)) r ⌝ }
+{
+    let m = s.map;
+    let book = s.book;
+    let start = wide(b[1]);
+    let destination = wide(b[2]);
+    let second = wire::three(b, 3);
+    let mut list = [0u8; 14080];
+    let p = planning::plan(m, book, start, destination, second, &mut list);
+    let h = plan_head(p);
+    let rows = plan_rows(p);
+    let len = put_answer(h, &list, rows, out);
+    Told { state: State { map: m, book: book, closed: true }, len: len }
+}
+
+fn book_frame(s: State, b: &[u8; 9], out: &mut [u8]) -> Told
+    requires { ⌜ length (now b) ≡ 9 ⌝ }
+    requires { ⌜ 30000 ≤ length (now out) ⌝ }
+    ensures { λ r. ⌜ Spoken (BookFrame s (now (b .entry))) (now (out .entry)) (now (out .exit)) r ⌝ }
+{
+    let m = s.map;
+    let book = s.book;
+    let start = wide(b[1]);
+    let destination = wide(b[2]);
+    let second = wire::three(b, 3);
+    let r = booking::book(m, book, start, destination, second);
+    let after = r.book;
+    let answer = r.answer;
+    let h = book_head(answer);
+    let len = put_answer(h, b, 0, out);
+    Told { state: State { map: m, book: after, closed: true }, len: len }
+}
+
+fn cancel_frame(s: State, b: &[u8; 9], out: &mut [u8]) -> Told
+    requires { ⌜ length (now b) ≡ 9 ⌝ }
+    requires { ⌜ 30000 ≤ length (now out) ⌝ }
+    ensures { λ r. ⌜ Spoken (CancelFrame s (now (b .entry))) (now (out .entry)) (now (out .exit)) r ⌝ }
+{
+    let m = s.map;
+    let book = s.book;
+    let ticket = wire::three(b, 1);
+    let r = booking::cancel(m, book, ticket);
+    let after = r.book;
+    let answer = r.answer;
+    let h = cancel_head(answer);
+    let len = put_answer(h, b, 0, out);
+    Told { state: State { map: m, book: after, closed: true }, len: len }
+}
+
+fn page_frame(s: State, b: &[u8; 9], out: &mut [u8]) -> Told
+    requires { ⌜ length (now b) ≡ 9 ⌝ }
+    requires { ⌜ 30000 ≤ length (now out) ⌝ }
+    ensures { λ r. ⌜ Spoken (PageFrame s (now (b .entry))) (now (out .entry)) (now (out .exit)) r ⌝ }
+{
+    let m = s.map;
+    let book = s.book;
+    let size = wide(b[1]);
+    let place = wide(b[2]);
+    let entry = wire::three(b, 3);
+    let ticket = wire::three(b, 6);
+    let cursor = Cursor { place: place, entry: entry, ticket: ticket };
+    let mut list = [0u8; 14080];
+    let p = paging::page(m, book, size, cursor, &mut list);
+    let h = page_head(p);
+    let rows = page_rows(p);
+    let len = put_answer(h, &list, rows, out);
+    Told { state: State { map: m, book: book, closed: true }, len: len }
 }

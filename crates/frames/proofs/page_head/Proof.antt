@@ -1,4 +1,13 @@
+use Prim.Native.Nat.{ℕ, suc, _+_, _-_, _*_, _/_, _%_, _≤_, _<_, min, max}
+use mathlib.Core.Path.{_≡_, refl, sym, ap, subst, _∙_}
+use mathlib.Core.Logic.{_⊎_, inl, inr, ⊎-elim}
+use mathlib.Core.Bool.{Bool, true, false, not}
+use mathlib.Core.List.{List}
+use native.Mathlib.Omega.{arith}
+use lib.ListN.{length, getD, set, take, drop}
 use borrow.Author.Needs.{needs}
+use Rattle.frames.specs.Heads.{HeadIs}
+use Rattle.rules.specs.Answer.{pagedCount}
 use Rattle.frames.proofs.page_head.Statement.{statement}
 use Rattle.frames.proofs.page_head.Tie as tie
 use Rattle.frames.proofs.page_head.Reads as reads
@@ -37,11 +46,15 @@ refused-head-requires c κs = search needs
 
 -- src/lib.rt:290:1
 returns : tie.Need-returns
-returns c = ?
+returns c =
+    let n : pagedCount (c .before .before .before .before .before .args .p) ≡ c .before .before .before .p .given .0 .0 .count = ap pagedCount (c .before .before .before .p .given .1) in
+    let f = c .before .before .before .before .before .pre in
+    let e : c .before .low-of .result ≡ c .before .before .before .p .given .0 .0 .count = omega (arith, c .before .low-of .ensures) in
+    rw (c .before .before .before .p .given .1, e, c .bit-of .ensures) (record { is = refl; fits = omega arith; long = refl })
 
 -- src/lib.rt:290:1
 returns-2 : tie.Need-returns-2
-returns-2 c = ?
+returns-2 c = rw (c .before .before .p2 .given .1) (c .refused-head .ensures _)
 
 pub page-head-spec : {M : Type 1} → statement M
 page-head-spec =
