@@ -483,3 +483,30 @@ fn page_frame(s: State, b: &[u8; 9], out: &mut [u8]) -> Told
     let len = put_answer(h, &list, rows, out);
     Told { state: State { map: m, book: book, closed: true }, len: len }
 }
+
+// What a line makes of the state, and the bytes that it prints, over the first of out.
+pub fn answer(s: State, l: Line, out: &mut [u8]) -> Told
+    requires { ⌜ 30000 ≤ length (now out) ⌝ }
+    ensures { λ r. ⌜ Spoken (Tells s l) (now (out .entry)) (now (out .exit)) r ⌝ }
+{
+    let b = bytes_of(l);
+    let n = b.count;
+    if n == 0 {
+        return refused(s, out);
+    }
+    let bytes = b.bytes;
+    let form = form_of(bytes[0]);
+    if form.length != n {
+        return refused(s, out);
+    }
+    let decoder = form.decoder;
+    match decoder {
+        Decoder::Place => place_frame(s, &bytes, out),
+        Decoder::Link => link_frame(s, &bytes, out),
+        Decoder::Plan => plan_frame(s, &bytes, out),
+        Decoder::Book => book_frame(s, &bytes, out),
+        Decoder::Cancel => cancel_frame(s, &bytes, out),
+        Decoder::Page => page_frame(s, &bytes, out),
+        Decoder::Nothing => refused(s, out),
+    }
+}

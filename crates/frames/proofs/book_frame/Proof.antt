@@ -1,13 +1,22 @@
+-- `frames::book_frame` meets its contract: the booking's line, and the book that it leaves.
+use Prim.Native.Nat.{ℕ, suc, _+_, _-_, _*_, _/_, _%_, _≤_, _<_, min, max}
+use mathlib.Core.Path.{_≡_, refl, sym, ap, subst, _∙_}
+use mathlib.Core.Logic.{_⊎_, inl, inr, ⊎-elim}
+use mathlib.Core.Bool.{Bool, true, false, not}
+use mathlib.Core.List.{List}
+use native.Mathlib.Omega.{arith}
+use lib.ListN.{length, getD, set, take, drop}
 use borrow.Author.Needs.{needs}
+use Rattle.frames.specs.Frames.{book-frame}
+use Rattle.booking.proofs.book.Reads as book-reads
+use Rattle.wire.proofs.three.Reads as three-reads
 use Rattle.frames.proofs.book_frame.Statement.{statement}
 use Rattle.frames.proofs.book_frame.Tie as tie
 use Rattle.frames.proofs.book_frame.Reads as reads
 use Rattle.frames.proofs.book_frame.Lts as lts
-use Rattle.booking.proofs.book.Reads as book-reads
 use Rattle.frames.proofs.book_head.Reads as book-head-reads
 use Rattle.frames.proofs.put_answer.Reads as put-answer-reads
 use Rattle.frames.proofs.wide.Reads as wide-reads
-use Rattle.wire.proofs.three.Reads as three-reads
 
 -- src/lib.rt:440:22
 element-copy-out-wide : tie.Need-element-copy-out-wide
@@ -47,7 +56,7 @@ same-length c = search needs
 
 -- src/lib.rt:433:1
 returns : tie.Need-returns
-returns c = ?
+returns c = book-frame (c .before .before .before .before .before .before .before .before .before .before .before .before .before .before .before .before .before .args .s) (c .before .before .before .before .before .before .before .before .before .before .before .before .before .before .before .before .before .args .b .now) (c .before .before .before .before .before .book-head .result) (c .before .before .before .before .before .before .before .book2 .result) (c .before .before .before .before .before .before .before .before .before .before .before .before .before .before .before .before .before .args .b .now) (c .before .before .before .before .before .before .before .before .before .before .before .before .wide .ensures) (c .before .before .before .before .before .before .before .before .before .before .wide2 .ensures) (c .before .before .before .before .before .before .before .before .three .ensures .0) (c .before .before .before .before .before .before .before .book2 .ensures) (c .before .before .before .before .before .book-head .ensures) (c .before .before .put-answer .ensures)
 
 pub book-frame-spec : {M : Type 1} → statement M
 book-frame-spec =

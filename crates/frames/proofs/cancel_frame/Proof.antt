@@ -1,12 +1,21 @@
+-- `frames::cancel_frame` meets its contract: the cancellation's line, and the book that it leaves.
+use Prim.Native.Nat.{ℕ, suc, _+_, _-_, _*_, _/_, _%_, _≤_, _<_, min, max}
+use mathlib.Core.Path.{_≡_, refl, sym, ap, subst, _∙_}
+use mathlib.Core.Logic.{_⊎_, inl, inr, ⊎-elim}
+use mathlib.Core.Bool.{Bool, true, false, not}
+use mathlib.Core.List.{List}
+use native.Mathlib.Omega.{arith}
+use lib.ListN.{length, getD, set, take, drop}
 use borrow.Author.Needs.{needs}
+use Rattle.frames.specs.Frames.{cancel-frame}
+use Rattle.booking.proofs.cancel.Reads as cancel-reads
+use Rattle.wire.proofs.three.Reads as three-reads
 use Rattle.frames.proofs.cancel_frame.Statement.{statement}
 use Rattle.frames.proofs.cancel_frame.Tie as tie
 use Rattle.frames.proofs.cancel_frame.Reads as reads
 use Rattle.frames.proofs.cancel_frame.Lts as lts
-use Rattle.booking.proofs.cancel.Reads as cancel-reads
 use Rattle.frames.proofs.cancel_head.Reads as cancel-head-reads
 use Rattle.frames.proofs.put_answer.Reads as put-answer-reads
-use Rattle.wire.proofs.three.Reads as three-reads
 
 -- src/lib.rt:458:9
 three-requires : tie.Need-three-requires
@@ -30,7 +39,7 @@ same-length c = search needs
 
 -- src/lib.rt:451:1
 returns : tie.Need-returns
-returns c = ?
+returns c = cancel-frame (c .before .before .before .before .before .before .before .before .before .before .before .before .before .args .s) (c .before .before .before .before .before .before .before .before .before .before .before .before .before .args .b .now) (c .before .before .before .before .before .cancel-head .result) (c .before .before .before .before .before .before .before .cancel .result) (c .before .before .before .before .before .before .before .before .before .before .before .before .before .args .b .now) (c .before .before .before .before .before .before .before .before .three .ensures .0) (c .before .before .before .before .before .before .before .cancel .ensures) (c .before .before .before .before .before .cancel-head .ensures) (c .before .before .put-answer .ensures)
 
 pub cancel-frame-spec : {M : Type 1} → statement M
 cancel-frame-spec =

@@ -1,4 +1,14 @@
+-- `frames::link_frame` meets its contract: refused once the map is closed or has 1,024 links, and otherwise kept as the next link.
+use Prim.Native.Nat.{ℕ, suc, _+_, _-_, _*_, _/_, _%_, _≤_, _<_, min, max}
+use mathlib.Core.Path.{_≡_, refl, sym, ap, subst, _∙_}
+use mathlib.Core.Logic.{_⊎_, inl, inr, ⊎-elim}
+use mathlib.Core.Bool.{Bool, true, false, not}
+use mathlib.Core.List.{List}
+use native.Mathlib.Omega.{arith}
+use lib.ListN.{length, getD, set, take, drop}
 use borrow.Author.Needs.{needs}
+use Rattle.laws.specs.Tests.{not-both}
+use Rattle.frames.specs.Frames.{link-refused, link-kept}
 use Rattle.frames.proofs.link_frame.Statement.{statement}
 use Rattle.frames.proofs.link_frame.Tie as tie
 use Rattle.frames.proofs.link_frame.Reads as reads
@@ -16,7 +26,7 @@ same-length c = search needs
 
 -- src/lib.rt:395:9
 returns : tie.Need-returns
-returns c = ?
+returns c = link-refused (c .before .before .before .before .before .before .args .s) (c .before .before .before .before .before .before .args .b .now) (c .before .before .refused .ensures) (λ h. not-both (c .before .before .before .before .if1 .taken) (h .0))
 
 -- src/lib.rt:400:9
 refused-requires-2 : tie.Need-refused-requires-2
@@ -28,7 +38,7 @@ same-length-2 c = search needs
 
 -- src/lib.rt:400:9
 returns-2 : tie.Need-returns-2
-returns-2 c = ?
+returns-2 c = link-refused (c .before .before .before .before .before .before .before .before .args .s) (c .before .before .before .before .before .before .before .before .args .b .now) (c .before .before .refused2 .ensures) (λ h. omega (arith, h .1))
 
 -- src/lib.rt:402:31
 element-copy-out-t15 : tie.Need-element-copy-out-t15
@@ -60,7 +70,7 @@ same-length-3 c = search needs
 
 -- src/lib.rt:389:1
 returns-3 : tie.Need-returns-3
-returns-3 c = ?
+returns-3 c = link-kept (c .before .before .before .before .before .before .before .before .before .before .before .args .s) (c .before .before .before .before .before .before .before .before .before .before .before .args .b .now) (c .before .before .put-number .ensures) (c .before .before .before .before .before .before .before .before .before .if1 .left) (omega arith)
 
 pub link-frame-spec : {M : Type 1} → statement M
 link-frame-spec =

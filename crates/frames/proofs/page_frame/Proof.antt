@@ -1,4 +1,15 @@
+-- `frames::page_frame` meets its contract: the page's first line and its rows from the list that paging wrote.
+use Prim.Native.Nat.{ℕ, suc, _+_, _-_, _*_, _/_, _%_, _≤_, _<_, min, max}
+use mathlib.Core.Path.{_≡_, refl, sym, ap, subst, _∙_}
+use mathlib.Core.Logic.{_⊎_, inl, inr, ⊎-elim}
+use mathlib.Core.Bool.{Bool, true, false, not}
+use mathlib.Core.List.{List}
+use native.Mathlib.Omega.{arith}
+use lib.ListN.{length, getD, set, take, drop}
 use borrow.Author.Needs.{needs}
+use Rattle.frames.specs.Frames.{page-few, page-frame}
+use Rattle.paging.proofs.page.Reads as page-reads
+use Rattle.wire.proofs.three.Reads as three-reads
 use Rattle.frames.proofs.page_frame.Statement.{statement}
 use Rattle.frames.proofs.page_frame.Tie as tie
 use Rattle.frames.proofs.page_frame.Reads as reads
@@ -7,8 +18,6 @@ use Rattle.frames.proofs.page_head.Reads as page-head-reads
 use Rattle.frames.proofs.page_rows.Reads as page-rows-reads
 use Rattle.frames.proofs.put_answer.Reads as put-answer-reads
 use Rattle.frames.proofs.wide.Reads as wide-reads
-use Rattle.paging.proofs.page.Reads as page-reads
-use Rattle.wire.proofs.three.Reads as three-reads
 
 -- src/lib.rt:474:21
 element-copy-out-wide : tie.Need-element-copy-out-wide
@@ -44,7 +53,7 @@ page-requires c κs = search needs
 
 -- src/lib.rt:481:9
 page-head-requires : tie.Need-page-head-requires
-page-head-requires c κs = ?
+page-head-requires c κs = omega (arith, page-few (c .before .page .ensures))
 
 -- src/lib.rt:482:9
 page-rows-requires : tie.Need-page-rows-requires
@@ -56,7 +65,10 @@ slice-aggregate-put-answer c = search needs
 
 -- src/lib.rt:483:9
 put-answer-requires : tie.Need-put-answer-requires
-put-answer-requires c κs = ?
+put-answer-requires c κs =
+    let k : length (c .before .before .before .before .before .page .last .1 .1 .1 .1 .0) ≡ 14080 = c .before .before .before .before .before .page .kept .1 .1 .1 .1 .0 in
+    let f = page-few (c .before .before .before .before .before .page .ensures) in
+    ((c .before .before .before .page-head .ensures .fits, c .before .before .before .page-head .ensures .long), (omega (arith, c .before .before .page-rows .ensures), omega (arith, c .before .before .page-rows .ensures)))
 
 -- src/lib.rt:467:1
 same-length : tie.Need-same-length
@@ -64,7 +76,10 @@ same-length c = search needs
 
 -- src/lib.rt:467:1
 returns : tie.Need-returns
-returns c = ?
+returns c =
+    let k : length (c .before .before .before .before .before .before .before .before .page .last .1 .1 .1 .1 .0) ≡ 14080 = c .before .before .before .before .before .before .before .before .page .kept .1 .1 .1 .1 .0 in
+    let f = page-few (c .before .before .before .before .before .before .before .before .page .ensures) in
+    page-frame (c .before .before .before .before .before .before .before .before .before .before .before .before .before .before .before .before .before .before .before .before .before .args .s) (c .before .before .before .before .before .before .before .before .before .before .before .before .before .before .before .before .before .before .before .before .before .args .b .now) (c .before .before .before .before .before .before .page-head .result) (c .before .before .before .before .before .before .before .before .page .result) (c .before .before .before .before .before .before .before .before .page .last .1 .1 .1 .1 .0) (c .before .before .before .before .before .page-rows .result) (c .before .before .before .before .before .before .before .before .before .before .before .before .before .before .before .before .wide .ensures) (c .before .before .before .before .before .before .before .before .before .before .before .before .before .before .wide2 .ensures) (c .before .before .before .before .before .before .before .before .before .before .before .before .three .ensures .0) (c .before .before .before .before .before .before .before .before .before .before .three2 .ensures .0) (c .before .before .before .before .before .before .before .before .page .ensures) (omega (arith, c .before .before .before .before .before .page-rows .ensures)) k (c .before .before .before .before .before .page-rows .ensures) (c .before .before .before .before .before .before .page-head .ensures) (c .before .before .put-answer .ensures)
 
 pub page-frame-spec : {M : Type 1} → statement M
 page-frame-spec =

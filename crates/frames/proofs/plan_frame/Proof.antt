@@ -1,4 +1,15 @@
+use Prim.Native.Nat.{ℕ, suc, _+_, _-_, _*_, _/_, _%_, _≤_, _<_, min, max}
+use mathlib.Core.Path.{_≡_, refl, sym, ap, subst, _∙_}
+use mathlib.Core.Logic.{_⊎_, inl, inr, ⊎-elim}
+use mathlib.Core.Bool.{Bool, true, false, not}
+use mathlib.Core.List.{List}
+use native.Mathlib.Omega.{arith}
+use lib.ListN.{length, getD, set, take, drop}
 use borrow.Author.Needs.{needs}
+use lib.ListN.{length-replicate}
+use Rattle.frames.specs.Frames.{plan-few, plan-frame}
+use Rattle.planning.proofs.plan.Reads as plan-reads
+use Rattle.wire.proofs.three.Reads as three-reads
 use Rattle.frames.proofs.plan_frame.Statement.{statement}
 use Rattle.frames.proofs.plan_frame.Tie as tie
 use Rattle.frames.proofs.plan_frame.Reads as reads
@@ -7,8 +18,6 @@ use Rattle.frames.proofs.plan_head.Reads as plan-head-reads
 use Rattle.frames.proofs.plan_rows.Reads as plan-rows-reads
 use Rattle.frames.proofs.put_answer.Reads as put-answer-reads
 use Rattle.frames.proofs.wide.Reads as wide-reads
-use Rattle.planning.proofs.plan.Reads as plan-reads
-use Rattle.wire.proofs.three.Reads as three-reads
 
 -- src/lib.rt:422:22
 element-copy-out-wide : tie.Need-element-copy-out-wide
@@ -52,7 +61,10 @@ slice-aggregate-put-answer c = search needs
 
 -- src/lib.rt:429:9
 put-answer-requires : tie.Need-put-answer-requires
-put-answer-requires c κs = ?
+put-answer-requires c κs =
+    let k : length (c .before .before .before .before .before .plan .last .1 .1 .1 .1 .1 .0) ≡ 14080 = c .before .before .before .before .before .plan .kept .1 .1 .1 .1 .1 .0 in
+    let f = plan-few (c .before .before .before .before .before .plan .ensures) (length-replicate {A = ℕ} 14080 0) in
+    ((c .before .before .before .plan-head .ensures .fits, c .before .before .before .plan-head .ensures .long), (omega (arith, c .before .before .plan-rows .ensures), omega (arith, c .before .before .plan-rows .ensures)))
 
 -- src/lib.rt:415:1
 same-length : tie.Need-same-length
@@ -60,7 +72,10 @@ same-length c = search needs
 
 -- src/lib.rt:415:1
 returns : tie.Need-returns
-returns c = ?
+returns c =
+    let k : length (c .before .before .before .before .before .before .before .before .plan .last .1 .1 .1 .1 .1 .0) ≡ 14080 = c .before .before .before .before .before .before .before .before .plan .kept .1 .1 .1 .1 .1 .0 in
+    let f = plan-few (c .before .before .before .before .before .before .before .before .plan .ensures) (length-replicate {A = ℕ} 14080 0) in
+    plan-frame (c .before .before .before .before .before .before .before .before .before .before .before .before .before .before .before .before .before .before .before .args .s) (c .before .before .before .before .before .before .before .before .before .before .before .before .before .before .before .before .before .before .before .args .b .now) (c .before .before .before .before .before .before .plan-head .result) (c .before .before .before .before .before .before .before .before .plan .result) (c .before .before .before .before .before .before .before .before .plan .last .1 .1 .1 .1 .1 .0) (c .before .before .before .before .before .plan-rows .result) (c .before .before .before .before .before .before .before .before .before .before .before .before .before .before .wide .ensures) (c .before .before .before .before .before .before .before .before .before .before .before .before .wide2 .ensures) (c .before .before .before .before .before .before .before .before .before .before .three .ensures .0) (c .before .before .before .before .before .before .before .before .plan .ensures) (omega (arith, c .before .before .before .before .before .plan-rows .ensures)) k (c .before .before .before .before .before .plan-rows .ensures) (c .before .before .before .before .before .before .plan-head .ensures) (c .before .before .put-answer .ensures)
 
 pub plan-frame-spec : {M : Type 1} → statement M
 plan-frame-spec =
