@@ -1,0 +1,512 @@
+// The program's frames: a line of digits in, the state after it and the answer's digits out.
+use rules::{Book, Booked, Booking, Cancelled, Cancelling, Cursor, Link, Map, Paged, Place, Planned, Refusal, State};
+ghost use mathlib.Core.Path.{_≡_};
+ghost use Prim.Native.Nat.{ℕ, _+_, _*_, _%_, _<_, _≤_};
+ghost use mathlib.Core.List.{List, [], _∷_, _++_};
+ghost use lib.ListN.{length, take, drop};
+ghost use Rattle.rules.specs.Rows.{bit};
+ghost use Rattle.rules.specs.Answer.{number, plannedNumber, plannedArrival, plannedCount, bookedNumber, bookedTicket, bookedArrival, bookedCount, cancelledNumber, cancelledCount, pagedNumber, pagedCount, pagedMore};
+ghost use Rattle.rules.specs.Frames.{digit, hexOf, lineOf, rowLines, after00, bytes2, bytes3, Said, PlaceFrame, LinkFrame, PlanFrame, BookFrame, CancelFrame, PageFrame};
+ghost use Rattle.frames.specs.Hex.{Value};
+ghost use Rattle.frames.specs.Lines.{LineIs, Decoded, FormIs};
+ghost use Rattle.frames.specs.Heads.{HeadIs};
+ghost use Rattle.frames.specs.Told.{Answers, Spoken};
+ghost use Rattle.frames.specs.Saying.{Tells};
+ghost use Rattle.frames.specs.Put.{Put, Digits, RowsPut};
+
+// The digits of a line, of which a frame has at most 18: len 19 stands for any longer line.
+pub struct Line {
+    pub digits: [u8; 18],
+    pub len: usize,
+}
+
+impl Line {
+    pub fn empty() -> Self
+        ensures { λ r. ⌜ LineIs [] r ⌝ }
+    {
+        Line {
+            digits: [0; 18],
+            len: 0,
+        }
+    }
+
+    // The line with one byte more.
+    pub fn push(self, c: u8) -> Self
+        ensures { λ r. ⌜ ((line : List ℕ) → LineIs line self → LineIs (line ++ (c ∷ [])) r) ⌝ }
+    {
+        let mut l = self;
+        let at = l.len;
+        if at >= 18 {
+            l.len = 19;
+            return l;
+        }
+        l.digits[at] = c;
+        l.len = at + 1;
+        l
+    }
+}
+
+// ---- a line's bytes
+
+// The value of an uppercase hexadecimal digit, 16 where it is none.
+fn value(c: u8) -> u8
+    ensures { λ r. ⌜ Value c r ⌝ }
+{
+    match c {
+        48..=57 => c - 48,
+        65..=70 => c - 55,
+        0..=47 | 58..=64 | 71..=255 => 16,
+    }
+}
+
+// The bytes of a line: none where the line is empty, too long, of odd length, or has another digit.
+struct Bytes {
+    bytes: [u8; 9],
+    count: usize,
+}
+
+fn bytes_of(l: Line) -> Bytes
+    ensures { λ r. ⌜ ((line : List ℕ) → LineIs line l → Decoded line (r .bytes) (r .count)) ⌝ }
+{
+    let n = l.len;
+    let mut bytes = [0u8; 9];
+    if n > 18 {
+        return Bytes { bytes: bytes, count: 0 };
+    }
+    if n % 2 != 0 {
+        return Bytes { bytes: bytes, count: 0 };
+    }
+    let count = n / 2;
+    let mut i: usize = 0;
+    while i < count {
+        let high = value(l.digits[2 * i]);
+        let low = value(l.digits[2 * i + 1]);
+        if high > 15 {
+            return Bytes { bytes: bytes, count: 0 };
+        }
+        if low > 15 {
+            return Bytes { bytes: bytes, count: 0 };
+        }
+        bytes[i] = high * 16 + low;
+        i += 1;
+    }
+    Bytes { bytes: bytes, count: count }
+}
+
+// What reads a frame's bytes.
+enum Decoder {
+    Place,
+    Link,
+    Plan,
+    Book,
+    Cancel,
+    Page,
+    Nothing,
+}
+
+// "What a line means goes by its first byte": the length of a frame of this kind, and its decoder.
+struct Form {
+    length: usize,
+    decoder: Decoder,
+}
+
+fn form_of(kind: u8) -> Form
+    ensures { λ r. ⌜ FormIs kind r ⌝ }
+{
+    match kind {
+        1 => Form { length: 4, decoder: Decoder::Place },
+        2 => Form { length: 3, decoder: Decoder::Link },
+        3 => Form { length: 6, decoder: Decoder::Plan },
+        4 => Form { length: 6, decoder: Decoder::Book },
+        5 => Form { length: 4, decoder: Decoder::Cancel },
+        6 => Form { length: 9, decoder: Decoder::Page },
+        0 | 7..=255 => Form { length: 0, decoder: Decoder::Nothing },
+    }
+}
+
+// ---- lines printed
+
+// The digit of a value.
+fn digit_of(x: u8) -> u8
+    requires { ⌜ x < 16 ⌝ }
+    ensures { λ r. ⌜ r ≡ digit x ⌝ }
+{
+    if x < 10 {
+        return x + 48;
+    }
+    x + 55
+}
+
+// The two digits of a byte, over the bytes of out from an index on.
+fn put_byte(x: u8, at: usize, out: &mut [u8])
+    requires { ⌜ at + 2 ≤ length (now out) ⌝ }
+    ensures { λ _. ⌜ Put (hexOf (x ∷ [])) at (now (out .entry)) (now (out .exit)) ⌝ }
+{
+    out[at] = digit_of(x / 16);
+    out[at + 1] = digit_of(x % 16);
+}
+
+// The digits of n bytes of a list.
+fn put_digits(list: &[u8], from: usize, n: usize, at: usize, out: &mut [u8])
+    requires { ⌜ from + n ≤ length (now list) ⌝ }
+    requires { ⌜ at + 2 * n ≤ length (now out) ⌝ }
+    ensures { λ _. ⌜ Digits (now (list .entry)) from n at (now (out .entry)) (now (out .exit)) ⌝ }
+{
+    let mut i: usize = 0;
+    while i < n {
+        put_byte(list[from + i], at + 2 * i, out);
+        i += 1;
+    }
+}
+
+// A line: the digits of n bytes of a list and a line feed.
+fn put_line(list: &[u8], from: usize, n: usize, at: usize, out: &mut [u8])
+    requires { ⌜ from + n ≤ length (now list) ⌝ }
+    requires { ⌜ at + 2 * n < length (now out) ⌝ }
+    ensures { λ _. ⌜ Put (lineOf (take n (drop from (now (list .entry))))) at (now (out .entry)) (now (out .exit)) ⌝ }
+{
+    put_digits(list, from, n, at, out);
+    out[at + 2 * n] = 10;
+}
+
+// A line for each of the first n records of a list.
+fn put_rows(list: &[u8], n: usize, at: usize, out: &mut [u8])
+    requires { ⌜ 11 * n ≤ length (now list) ⌝ }
+    requires { ⌜ at + 23 * n ≤ length (now out) ⌝ }
+    ensures { λ _. ⌜ RowsPut (now (list .entry)) n at (now (out .entry)) (now (out .exit)) ⌝ }
+{
+    let mut j: usize = 0;
+    while j < n {
+        put_line(list, 11 * j, 11, at + 23 * j, out);
+        j += 1;
+    }
+}
+
+// The bytes of an answer's first line.
+struct Head {
+    bytes: [u8; 9],
+    count: usize,
+}
+
+// A refusal's number in the table.
+fn number_of(r: Refusal) -> u8
+    ensures { λ n. ⌜ n ≡ number r ⌝ }
+{
+    match r {
+        Refusal::BadMap => 1,
+        Refusal::BadBook => 2,
+        Refusal::OffMap => 3,
+        Refusal::OffDay => 4,
+        Refusal::NoPlan => 5,
+        Refusal::ShortList => 6,
+        Refusal::FullBook => 7,
+        Refusal::NoTickets => 8,
+        Refusal::UnknownTicket => 9,
+        Refusal::BadSize => 10,
+        Refusal::BadCursor => 11,
+        Refusal::BadFrame => 12,
+    }
+}
+
+fn refused_head(r: Refusal) -> Head
+    ensures { λ h. ⌜ ((more : List ℕ) → HeadIs (after00 (number r) more) h) ⌝ }
+{
+    Head {
+        bytes: [number_of(r); 9],
+        count: 1,
+    }
+}
+
+fn low_byte(x: u32) -> u8
+    ensures { λ r. ⌜ r ≡ x % 256 ⌝ }
+{
+    (x % 256) as u8
+}
+
+fn low_of(x: usize) -> u8
+    ensures { λ r. ⌜ r ≡ x % 256 ⌝ }
+{
+    (x % 256) as u8
+}
+
+fn plan_head(p: Planned) -> Head
+    ensures { λ h. ⌜ HeadIs (after00 (plannedNumber p) (bytes3 (plannedArrival p) ++ bytes2 (plannedCount p))) h ⌝ }
+{
+    match p {
+        Planned::Done(t) => {
+            let mut bytes = [0u8; 9];
+            bytes[1] = low_byte(t.arrival / 65536);
+            bytes[2] = low_byte(t.arrival / 256);
+            bytes[3] = low_byte(t.arrival);
+            bytes[4] = low_of(t.count / 256);
+            bytes[5] = low_of(t.count);
+            Head { bytes: bytes, count: 6 }
+        }
+        Planned::Refused(r) => refused_head(r),
+    }
+}
+
+fn book_head(b: Booked) -> Head
+    ensures { λ h. ⌜ HeadIs (after00 (bookedNumber b) (bytes3 (bookedTicket b) ++ (bytes3 (bookedArrival b) ++ bytes2 (bookedCount b)))) h ⌝ }
+{
+    match b {
+        Booked::Done(t) => {
+            let mut bytes = [0u8; 9];
+            bytes[1] = low_byte(t.ticket / 65536);
+            bytes[2] = low_byte(t.ticket / 256);
+            bytes[3] = low_byte(t.ticket);
+            bytes[4] = low_byte(t.arrival / 65536);
+            bytes[5] = low_byte(t.arrival / 256);
+            bytes[6] = low_byte(t.arrival);
+            bytes[7] = low_of(t.count / 256);
+            bytes[8] = low_of(t.count);
+            Head { bytes: bytes, count: 9 }
+        }
+        Booked::Refused(r) => refused_head(r),
+    }
+}
+
+fn cancel_head(a: Cancelled) -> Head
+    ensures { λ h. ⌜ HeadIs (after00 (cancelledNumber a) (bytes2 (cancelledCount a))) h ⌝ }
+{
+    match a {
+        Cancelled::Done(c) => {
+            let mut bytes = [0u8; 9];
+            bytes[1] = low_of(c / 256);
+            bytes[2] = low_of(c);
+            Head { bytes: bytes, count: 3 }
+        }
+        Cancelled::Refused(r) => refused_head(r),
+    }
+}
+
+fn bit_of(b: bool) -> u8
+    ensures { λ r. ⌜ r ≡ bit b ⌝ }
+{
+    if b {
+        return 1;
+    }
+    0
+}
+
+fn page_head(p: Paged) -> Head
+    requires { ⌜ pagedCount p < 256 ⌝ }
+    ensures { λ h. ⌜ HeadIs (after00 (pagedNumber p) (pagedCount p ∷ (bit (pagedMore p) ∷ []))) h ⌝ }
+{
+    match p {
+        Paged::Done(s) => {
+            let mut bytes = [0u8; 9];
+            bytes[1] = low_of(s.count);
+            bytes[2] = bit_of(s.more);
+            Head { bytes: bytes, count: 3 }
+        }
+        Paged::Refused(r) => refused_head(r),
+    }
+}
+
+// How many row lines follow.
+fn plan_rows(p: Planned) -> usize
+    ensures { λ r. ⌜ r ≡ plannedCount p ⌝ }
+{
+    match p {
+        Planned::Done(t) => t.count,
+        Planned::Refused(_) => 0,
+    }
+}
+
+fn page_rows(p: Paged) -> usize
+    ensures { λ r. ⌜ r ≡ pagedCount p ⌝ }
+{
+    match p {
+        Paged::Done(s) => s.count,
+        Paged::Refused(_) => 0,
+    }
+}
+
+// An answer's lines: the first, and the row lines.
+fn put_answer(h: Head, list: &[u8], rows: usize, out: &mut [u8]) -> usize
+    requires { ⌜ (h .count ≤ 9) × (length (h .bytes) ≡ 9) ⌝ }
+    requires { ⌜ 11 * rows ≤ length (now list) ⌝ }
+    requires { ⌜ 19 + 23 * rows ≤ length (now out) ⌝ }
+    ensures { λ r. ⌜ Answers (lineOf (take (h .count) (h .bytes)) ++ rowLines rows (now (list .entry))) (now (out .entry)) (now (out .exit)) r ⌝ }
+{
+    let n = h.count;
+    let bytes = h.bytes;
+    put_line(&bytes, 0, n, 0, out);
+    let at = 2 * n + 1;
+    put_rows(list, rows, at, out);
+    at + 23 * rows
+}
+
+// ---- frames
+
+// The state after a line, and how many bytes of its answer are in the caller's list.
+pub struct Told {
+    pub state: State,
+    pub len: usize,
+}
+
+// A line of one byte.
+fn put_number(x: u8, out: &mut [u8]) -> usize
+    requires { ⌜ 3 ≤ length (now out) ⌝ }
+    ensures { λ r. ⌜ Answers (lineOf (x ∷ [])) (now (out .entry)) (now (out .exit)) r ⌝ }
+{
+    let list = [x; 1];
+    put_line(&list, 0, 1, 0, out);
+    3
+}
+
+// "A line refused with 12 changes nothing."
+fn refused(s: State, out: &mut [u8]) -> Told
+    requires { ⌜ 30000 ≤ length (now out) ⌝ }
+    ensures { λ r. ⌜ Spoken (Said s (lineOf (12 ∷ []))) (now (out .entry)) (now (out .exit)) r ⌝ }
+{
+    let len = put_number(12, out);
+    Told { state: s, len: len }
+}
+
+fn place_frame(s: State, b: &[u8; 9], out: &mut [u8]) -> Told
+    requires { ⌜ length (now b) ≡ 9 ⌝ }
+    requires { ⌜ 30000 ≤ length (now out) ⌝ }
+    ensures { λ r. ⌜ Spoken (PlaceFrame s (now (b .entry))) (now (out .entry)) (now (out .exit)) r ⌝ }
+{
+    if s.closed {
+        return refused(s, out);
+    }
+    let mut m = s.map;
+    let n = m.place_count;
+    if n >= 256 {
+        return refused(s, out);
+    }
+    let duration = wire::two(b, 2) as u16;
+    m.places[n] = Place { capacity: b[1], duration: duration };
+    m.place_count = n + 1;
+    let book = s.book;
+    let len = put_number(0, out);
+    Told { state: State { map: m, book: book, closed: false }, len: len }
+}
+
+fn link_frame(s: State, b: &[u8; 9], out: &mut [u8]) -> Told
+    requires { ⌜ length (now b) ≡ 9 ⌝ }
+    requires { ⌜ 30000 ≤ length (now out) ⌝ }
+    ensures { λ r. ⌜ Spoken (LinkFrame s (now (b .entry))) (now (out .entry)) (now (out .exit)) r ⌝ }
+{
+    if s.closed {
+        return refused(s, out);
+    }
+    let mut m = s.map;
+    let n = m.link_count;
+    if n >= 1024 {
+        return refused(s, out);
+    }
+    m.links[n] = Link { from: b[1], to: b[2] };
+    m.link_count = n + 1;
+    let book = s.book;
+    let len = put_number(0, out);
+    Told { state: State { map: m, book: book, closed: false }, len: len }
+}
+
+fn wide(x: u8) -> u32
+    ensures { λ r. ⌜ r ≡ x ⌝ }
+{
+    x as u32
+}
+
+fn plan_frame(s: State, b: &[u8; 9], out: &mut [u8]) -> Told
+    requires { ⌜ length (now b) ≡ 9 ⌝ }
+    requires { ⌜ 30000 ≤ length (now out) ⌝ }
+    ensures { λ r. ⌜ Spoken (PlanFrame s (now (b .entry))) (now (out .entry)) (now (out .exit)) r ⌝ }
+{
+    let m = s.map;
+    let book = s.book;
+    let start = wide(b[1]);
+    let destination = wide(b[2]);
+    let second = wire::three(b, 3);
+    let mut list = [0u8; 14080];
+    let p = planning::plan(m, book, start, destination, second, &mut list);
+    let h = plan_head(p);
+    let rows = plan_rows(p);
+    let len = put_answer(h, &list, rows, out);
+    Told { state: State { map: m, book: book, closed: true }, len: len }
+}
+
+fn book_frame(s: State, b: &[u8; 9], out: &mut [u8]) -> Told
+    requires { ⌜ length (now b) ≡ 9 ⌝ }
+    requires { ⌜ 30000 ≤ length (now out) ⌝ }
+    ensures { λ r. ⌜ Spoken (BookFrame s (now (b .entry))) (now (out .entry)) (now (out .exit)) r ⌝ }
+{
+    let m = s.map;
+    let book = s.book;
+    let start = wide(b[1]);
+    let destination = wide(b[2]);
+    let second = wire::three(b, 3);
+    let r = booking::book(m, book, start, destination, second);
+    let after = r.book;
+    let answer = r.answer;
+    let h = book_head(answer);
+    let len = put_answer(h, b, 0, out);
+    Told { state: State { map: m, book: after, closed: true }, len: len }
+}
+
+fn cancel_frame(s: State, b: &[u8; 9], out: &mut [u8]) -> Told
+    requires { ⌜ length (now b) ≡ 9 ⌝ }
+    requires { ⌜ 30000 ≤ length (now out) ⌝ }
+    ensures { λ r. ⌜ Spoken (CancelFrame s (now (b .entry))) (now (out .entry)) (now (out .exit)) r ⌝ }
+{
+    let m = s.map;
+    let book = s.book;
+    let ticket = wire::three(b, 1);
+    let r = booking::cancel(m, book, ticket);
+    let after = r.book;
+    let answer = r.answer;
+    let h = cancel_head(answer);
+    let len = put_answer(h, b, 0, out);
+    Told { state: State { map: m, book: after, closed: true }, len: len }
+}
+
+fn page_frame(s: State, b: &[u8; 9], out: &mut [u8]) -> Told
+    requires { ⌜ length (now b) ≡ 9 ⌝ }
+    requires { ⌜ 30000 ≤ length (now out) ⌝ }
+    ensures { λ r. ⌜ Spoken (PageFrame s (now (b .entry))) (now (out .entry)) (now (out .exit)) r ⌝ }
+{
+    let m = s.map;
+    let book = s.book;
+    let size = wide(b[1]);
+    let place = wide(b[2]);
+    let entry = wire::three(b, 3);
+    let ticket = wire::three(b, 6);
+    let cursor = Cursor { place: place, entry: entry, ticket: ticket };
+    let mut list = [0u8; 14080];
+    let p = paging::page(m, book, size, cursor, &mut list);
+    let h = page_head(p);
+    let rows = page_rows(p);
+    let len = put_answer(h, &list, rows, out);
+    Told { state: State { map: m, book: book, closed: true }, len: len }
+}
+
+// What a line makes of the state, and the bytes that it prints, over the first of out.
+pub fn answer(s: State, l: Line, out: &mut [u8]) -> Told
+    requires { ⌜ 30000 ≤ length (now out) ⌝ }
+    ensures { λ r. ⌜ Spoken (Tells s l) (now (out .entry)) (now (out .exit)) r ⌝ }
+{
+    let b = bytes_of(l);
+    let n = b.count;
+    if n == 0 {
+        return refused(s, out);
+    }
+    let bytes = b.bytes;
+    let form = form_of(bytes[0]);
+    if form.length != n {
+        return refused(s, out);
+    }
+    let decoder = form.decoder;
+    match decoder {
+        Decoder::Place => place_frame(s, &bytes, out),
+        Decoder::Link => link_frame(s, &bytes, out),
+        Decoder::Plan => plan_frame(s, &bytes, out),
+        Decoder::Book => book_frame(s, &bytes, out),
+        Decoder::Cancel => cancel_frame(s, &bytes, out),
+        Decoder::Page => page_frame(s, &bytes, out),
+        Decoder::Nothing => refused(s, out),
+    }
+}
