@@ -5,3 +5,4 @@ pub mod Heads
 pub mod Told
 pub mod Saying
 pub mod Frames
+pub mod Answering

@@ -1,4 +1,13 @@
+-- `frames::answer` meets its contract: the line's bytes, if it has any, go to the decoder of their kind where their number is that kind's.
+use Prim.Native.Nat.{ℕ, suc, _+_, _-_, _*_, _/_, _%_, _≤_, _<_, min, max}
+use mathlib.Core.Path.{_≡_, refl, sym, ap, subst, _∙_}
+use mathlib.Core.Logic.{_⊎_, inl, inr, ⊎-elim}
+use mathlib.Core.Bool.{Bool, true, false, not}
+use mathlib.Core.List.{List, []}
+use native.Mathlib.Omega.{arith}
+use lib.ListN.{length, getD, set, take, drop}
 use borrow.Author.Needs.{needs}
+use Rattle.frames.specs.Answering.{none-answers, other-answers, place-answers, link-answers, plan-answers, book-answers, cancel-answers, page-answers, some-decoder}
 use Rattle.frames.proofs.answer.Statement.{statement}
 use Rattle.frames.proofs.answer.Tie as tie
 use Rattle.frames.proofs.answer.Reads as reads
@@ -27,7 +36,7 @@ same-length c = search needs
 
 -- src/lib.rt:495:9
 returns : tie.Need-returns
-returns c = ?
+returns c = none-answers (c .before .before .before .before .before .before .before .args .s) (c .before .before .before .before .before .before .before .args .l) (c .before .before .before .before .before .bytes-of .result .bytes) (c .before .before .before .before .before .bytes-of .result .count) (c .before .before .before .before .before .bytes-of .ensures) (omega arith) (c .before .before .refused .ensures)
 
 -- src/lib.rt:498:24
 array-read-form-of : tie.Need-array-read-form-of
@@ -47,7 +56,7 @@ same-length-2 c = search needs
 
 -- src/lib.rt:500:9
 returns-2 : tie.Need-returns-2
-returns-2 c = ?
+returns-2 c = other-answers (c .before .before .before .before .before .before .before .before .before .before .before .args .s) (c .before .before .before .before .before .before .before .before .before .before .before .args .l) (c .before .before .before .before .before .before .before .before .before .bytes-of .result .bytes) (c .before .before .before .before .before .before .before .before .before .bytes-of .result .count) (c .before .before .before .before .before .before .form-of .result) (c .before .before .before .before .before .before .before .before .before .bytes-of .ensures) (omega arith) (c .before .before .before .before .before .before .form-of .ensures) (c .before .before .before .before .if2 .taken) (c .before .before .refused2 .ensures)
 
 -- src/lib.rt:504:42
 enum-told : tie.Need-enum-told
@@ -111,7 +120,7 @@ same-length-3 c = search needs
 
 -- src/lib.rt:488:1
 returns-3 : tie.Need-returns-3
-returns-3 c = ?
+returns-3 c = place-answers (c .before .before .before .before .before .before .before .before .before .before .before .before .before .before .args .s) (c .before .before .before .before .before .before .before .before .before .before .before .before .before .before .args .l) (c .before .before .before .before .before .before .before .before .before .before .before .before .bytes-of .result .bytes) (c .before .before .before .before .before .before .before .before .before .before .before .before .bytes-of .result .count) (c .before .before .before .before .before .before .before .before .before .form-of .result) (c .before .before .before .before .before .before .before .before .before .before .before .before .bytes-of .ensures) (omega arith) (c .before .before .before .before .before .before .before .before .before .form-of .ensures) (omega arith) (c .before .before .before .before .before .enum-told .given .1) (c .before .before .place-frame .ensures)
 
 -- src/lib.rt:488:1
 same-length-4 : tie.Need-same-length-4
@@ -119,7 +128,7 @@ same-length-4 c = search needs
 
 -- src/lib.rt:488:1
 returns-4 : tie.Need-returns-4
-returns-4 c = ?
+returns-4 c = link-answers (c .before .before .before .before .before .before .before .before .before .before .before .before .before .before .args .s) (c .before .before .before .before .before .before .before .before .before .before .before .before .before .before .args .l) (c .before .before .before .before .before .before .before .before .before .before .before .before .bytes-of .result .bytes) (c .before .before .before .before .before .before .before .before .before .before .before .before .bytes-of .result .count) (c .before .before .before .before .before .before .before .before .before .form-of .result) (c .before .before .before .before .before .before .before .before .before .before .before .before .bytes-of .ensures) (omega arith) (c .before .before .before .before .before .before .before .before .before .form-of .ensures) (omega arith) (c .before .before .before .before .before .enum-told2 .given .1) (c .before .before .link-frame .ensures)
 
 -- src/lib.rt:488:1
 same-length-5 : tie.Need-same-length-5
@@ -127,7 +136,7 @@ same-length-5 c = search needs
 
 -- src/lib.rt:488:1
 returns-5 : tie.Need-returns-5
-returns-5 c = ?
+returns-5 c = plan-answers (c .before .before .before .before .before .before .before .before .before .before .before .before .before .before .args .s) (c .before .before .before .before .before .before .before .before .before .before .before .before .before .before .args .l) (c .before .before .before .before .before .before .before .before .before .before .before .before .bytes-of .result .bytes) (c .before .before .before .before .before .before .before .before .before .before .before .before .bytes-of .result .count) (c .before .before .before .before .before .before .before .before .before .form-of .result) (c .before .before .before .before .before .before .before .before .before .before .before .before .bytes-of .ensures) (omega arith) (c .before .before .before .before .before .before .before .before .before .form-of .ensures) (omega arith) (c .before .before .before .before .before .enum-told3 .given .1) (c .before .before .plan-frame .ensures)
 
 -- src/lib.rt:488:1
 same-length-6 : tie.Need-same-length-6
@@ -135,7 +144,7 @@ same-length-6 c = search needs
 
 -- src/lib.rt:488:1
 returns-6 : tie.Need-returns-6
-returns-6 c = ?
+returns-6 c = book-answers (c .before .before .before .before .before .before .before .before .before .before .before .before .before .before .args .s) (c .before .before .before .before .before .before .before .before .before .before .before .before .before .before .args .l) (c .before .before .before .before .before .before .before .before .before .before .before .before .bytes-of .result .bytes) (c .before .before .before .before .before .before .before .before .before .before .before .before .bytes-of .result .count) (c .before .before .before .before .before .before .before .before .before .form-of .result) (c .before .before .before .before .before .before .before .before .before .before .before .before .bytes-of .ensures) (omega arith) (c .before .before .before .before .before .before .before .before .before .form-of .ensures) (omega arith) (c .before .before .before .before .before .enum-told4 .given .1) (c .before .before .book-frame .ensures)
 
 -- src/lib.rt:488:1
 same-length-7 : tie.Need-same-length-7
@@ -143,7 +152,7 @@ same-length-7 c = search needs
 
 -- src/lib.rt:488:1
 returns-7 : tie.Need-returns-7
-returns-7 c = ?
+returns-7 c = cancel-answers (c .before .before .before .before .before .before .before .before .before .before .before .before .before .before .args .s) (c .before .before .before .before .before .before .before .before .before .before .before .before .before .before .args .l) (c .before .before .before .before .before .before .before .before .before .before .before .before .bytes-of .result .bytes) (c .before .before .before .before .before .before .before .before .before .before .before .before .bytes-of .result .count) (c .before .before .before .before .before .before .before .before .before .form-of .result) (c .before .before .before .before .before .before .before .before .before .before .before .before .bytes-of .ensures) (omega arith) (c .before .before .before .before .before .before .before .before .before .form-of .ensures) (omega arith) (c .before .before .before .before .before .enum-told5 .given .1) (c .before .before .cancel-frame .ensures)
 
 -- src/lib.rt:488:1
 same-length-8 : tie.Need-same-length-8
@@ -151,7 +160,7 @@ same-length-8 c = search needs
 
 -- src/lib.rt:488:1
 returns-8 : tie.Need-returns-8
-returns-8 c = ?
+returns-8 c = page-answers (c .before .before .before .before .before .before .before .before .before .before .before .before .before .before .args .s) (c .before .before .before .before .before .before .before .before .before .before .before .before .before .before .args .l) (c .before .before .before .before .before .before .before .before .before .before .before .before .bytes-of .result .bytes) (c .before .before .before .before .before .before .before .before .before .before .before .before .bytes-of .result .count) (c .before .before .before .before .before .before .before .before .before .form-of .result) (c .before .before .before .before .before .before .before .before .before .before .before .before .bytes-of .ensures) (omega arith) (c .before .before .before .before .before .before .before .before .before .form-of .ensures) (omega arith) (c .before .before .before .before .before .enum-told6 .given .1) (c .before .before .page-frame .ensures)
 
 -- src/lib.rt:488:1
 same-length-9 : tie.Need-same-length-9
@@ -159,7 +168,7 @@ same-length-9 c = search needs
 
 -- src/lib.rt:488:1
 returns-9 : tie.Need-returns-9
-returns-9 c = ?
+returns-9 c = absurd (some-decoder (c .before .before .before .before .before .before .before .before .before .before .before .bytes-of .result .bytes) (c .before .before .before .before .before .before .before .before .before .before .before .bytes-of .result .count) (c .before .before .before .before .before .before .before .before .form-of .result) (omega arith) (c .before .before .before .before .before .before .before .before .form-of .ensures) (omega arith) (c .before .before .before .before .enum-told7 .given .1))
 
 pub answer-spec : {M : Type 1} → statement M
 answer-spec =
