@@ -39,11 +39,11 @@ pub push-full : (l : Line) (c : ℕ) → length (l .digits) ≡ 18 → 18 ≤ l 
 push-full l c n h line L = record {
   short = λ k. absurd (omega arith);
   long = λ k.
-    let e = length-append line (c ∷ []) in
-    ⊎-elim
-    (λ (a : l .len ≡ 18). let s = ap length (L .short (omega arith)) ∙ length-take-le (l .len) (l .digits) (omega arith) in omega arith)
-    (λ (a : l .len ≡ 18 → ⊥). let s = L .long (above (l .len) h a) in omega arith)
-    (eq-or-ne (l .len) 18);
+      let e = length-append line (c ∷ []) in
+      ⊎-elim
+      (λ (a : l .len ≡ 18). let s = ap length (L .short (omega arith)) ∙ length-take-le (l .len) (l .digits) (omega arith) in omega arith)
+      (λ (a : l .len ≡ 18 → ⊥). let s = L .long (above (l .len) h a) in omega arith)
+      (eq-or-ne (l .len) 18);
 }
   where
     above : (x : ℕ) → 18 ≤ x → (x ≡ 18 → ⊥) → 18 < x
@@ -106,11 +106,11 @@ pub read-all : {l : Line} {bytes : List ℕ} {count : ℕ} → l .len ≤ 18 →
 unfolding hexOf
 read-all {l} {bytes} {count} h e R line L = record {
   none = λ z b B s n m.
-    let w : l .len ≡ 0 = omega arith in
-    let t : line ≡ [] = L .short h ∙ ap (λ (k : ℕ). take k (l .digits)) w in
-    let u : length line ≡ 0 = ap length t in
-    let v = ap length s in
-    omega (arith, hex-length b);
+      let w : l .len ≡ 0 = omega arith in
+      let t : line ≡ [] = L .short h ∙ ap (λ (k : ℕ). take k (l .digits)) w in
+      let u : length line ≡ 0 = ap length t in
+      let v = ap length s in
+      omega (arith, hex-length b);
   some = λ k. L .short h ∙ ap (λ (n : ℕ). take n (l .digits)) (sym e) ∙ R .so-far;
   are-bytes = R .are-bytes;
   fits = omega arith;
@@ -137,21 +137,21 @@ odd-length l d h o B n line L = no-bytes B n line (λ b C s m k. let t = ap leng
 module _ (l : Line) {bytes : List ℕ} (i : ℕ) (d : length (l .digits) ≡ 18) (h : l .len ≤ 18) (in-line : 2 * i + 1 < l .len) (B : AreBytes bytes) (n : length bytes ≡ 9) where
   pub bad-high : {v : ℕ} → Value (getD (l .digits) (2 * i) 0) v → 16 ≤ v → Undecoded l bytes
   bad-high X g line L = no-bytes B n line (λ b C s m k.
-    let t = ap length s in
-    let u = line-length l d h line L in
-    let w = hex-length b in
-    let x : getD (l .digits) (2 * i) 0 ≡ digit (byteAt b i / 16) =
-    sym (getD-take (l .len) (l .digits) (2 * i) 0 (omega arith)) ∙ ap (λ (q : List ℕ). getD q (2 * i) 0) (sym (L .short h) ∙ s) ∙ hex-at-high b i (omega arith) in
-    X .none g (byteAt b i / 16) (let z = C i in omega arith) x)
+      let t = ap length s in
+      let u = line-length l d h line L in
+      let w = hex-length b in
+      let x : getD (l .digits) (2 * i) 0 ≡ digit (byteAt b i / 16) =
+      sym (getD-take (l .len) (l .digits) (2 * i) 0 (omega arith)) ∙ ap (λ (q : List ℕ). getD q (2 * i) 0) (sym (L .short h) ∙ s) ∙ hex-at-high b i (omega arith) in
+      X .none g (byteAt b i / 16) (let z = C i in omega arith) x)
 
   pub bad-low : {v : ℕ} → Value (getD (l .digits) (2 * i + 1) 0) v → 16 ≤ v → Undecoded l bytes
   bad-low X g line L = no-bytes B n line (λ b C s m k.
-    let t = ap length s in
-    let u = line-length l d h line L in
-    let w = hex-length b in
-    let x : getD (l .digits) (2 * i + 1) 0 ≡ digit (byteAt b i % 16) =
-    sym (getD-take (l .len) (l .digits) (2 * i + 1) 0 (omega arith)) ∙ ap (λ (q : List ℕ). getD q (2 * i + 1) 0) (sym (L .short h) ∙ s) ∙ hex-at-low b i (omega arith) in
-    X .none g (byteAt b i % 16) (omega arith) x)
+      let t = ap length s in
+      let u = line-length l d h line L in
+      let w = hex-length b in
+      let x : getD (l .digits) (2 * i + 1) 0 ≡ digit (byteAt b i % 16) =
+      sym (getD-take (l .len) (l .digits) (2 * i + 1) 0 (omega arith)) ∙ ap (λ (q : List ℕ). getD q (2 * i + 1) 0) (sym (L .short h) ∙ s) ∙ hex-at-low b i (omega arith) in
+      X .none g (byteAt b i % 16) (omega arith) x)
 
 -- ---- a frame's length and decoder, by its kind
 

@@ -163,8 +163,8 @@ module _ (s : State) (bytes : List ℕ) (n : ℕ) (s′ : State) (said : List �
       answer = p .answer;
       list = p .list;
       is =
-        rw (byte bytes n 1 (omega arith), byte bytes n 2 (omega arith), byte bytes n 3 (omega arith), byte bytes n 4 (omega arith), byte bytes n 5 (omega arith), byte bytes n 6 (omega arith), byte bytes n 7 (omega arith), byte bytes n 8 (omega arith))
-        (p .is);
+          rw (byte bytes n 1 (omega arith), byte bytes n 2 (omega arith), byte bytes n 3 (omega arith), byte bytes n 4 (omega arith), byte bytes n 5 (omega arith), byte bytes n 6 (omega arith), byte bytes n 7 (omega arith), byte bytes n 8 (omega arith))
+          (p .is);
       said-so = p .said-so;
     };
   }

@@ -1,5 +1,17 @@
 // The program's frames: a line of digits in, the state after it and the answer's digits out.
-use rules::{Book, Booked, Booking, Cancelled, Cancelling, Cursor, Link, Map, Paged, Place, Planned, Refusal, State};
+use rules::Book;
+use rules::Booked;
+use rules::Booking;
+use rules::Cancelled;
+use rules::Cancelling;
+use rules::Cursor;
+use rules::Link;
+use rules::Map;
+use rules::Paged;
+use rules::Place;
+use rules::Planned;
+use rules::Refusal;
+use rules::State;
 ghost use mathlib.Core.Path.{_≡_};
 ghost use Prim.Native.Nat.{ℕ, _+_, _*_, _%_, _<_, _≤_};
 ghost use mathlib.Core.List.{List, [], _∷_, _++_};
@@ -71,10 +83,16 @@ fn bytes_of(l: Line) -> Bytes
     let n = l.len;
     let mut bytes = [0u8; 9];
     if n > 18 {
-        return Bytes { bytes: bytes, count: 0 };
+        return Bytes {
+            bytes: bytes,
+            count: 0,
+        };
     }
     if n % 2 != 0 {
-        return Bytes { bytes: bytes, count: 0 };
+        return Bytes {
+            bytes: bytes,
+            count: 0,
+        };
     }
     let count = n / 2;
     let mut i: usize = 0;
@@ -82,15 +100,24 @@ fn bytes_of(l: Line) -> Bytes
         let high = value(l.digits[2 * i]);
         let low = value(l.digits[2 * i + 1]);
         if high > 15 {
-            return Bytes { bytes: bytes, count: 0 };
+            return Bytes {
+                bytes: bytes,
+                count: 0,
+            };
         }
         if low > 15 {
-            return Bytes { bytes: bytes, count: 0 };
+            return Bytes {
+                bytes: bytes,
+                count: 0,
+            };
         }
         bytes[i] = high * 16 + low;
         i += 1;
     }
-    Bytes { bytes: bytes, count: count }
+    Bytes {
+        bytes: bytes,
+        count: count,
+    }
 }
 
 // What reads a frame's bytes.
@@ -114,13 +141,34 @@ fn form_of(kind: u8) -> Form
     ensures { λ r. ⌜ FormIs kind r ⌝ }
 {
     match kind {
-        1 => Form { length: 4, decoder: Decoder::Place },
-        2 => Form { length: 3, decoder: Decoder::Link },
-        3 => Form { length: 6, decoder: Decoder::Plan },
-        4 => Form { length: 6, decoder: Decoder::Book },
-        5 => Form { length: 4, decoder: Decoder::Cancel },
-        6 => Form { length: 9, decoder: Decoder::Page },
-        0 | 7..=255 => Form { length: 0, decoder: Decoder::Nothing },
+        1 => Form {
+            length: 4,
+            decoder: Decoder::Place,
+        },
+        2 => Form {
+            length: 3,
+            decoder: Decoder::Link,
+        },
+        3 => Form {
+            length: 6,
+            decoder: Decoder::Plan,
+        },
+        4 => Form {
+            length: 6,
+            decoder: Decoder::Book,
+        },
+        5 => Form {
+            length: 4,
+            decoder: Decoder::Cancel,
+        },
+        6 => Form {
+            length: 9,
+            decoder: Decoder::Page,
+        },
+        0 | 7..=255 => Form {
+            length: 0,
+            decoder: Decoder::Nothing,
+        },
     }
 }
 
@@ -240,7 +288,10 @@ fn plan_head(p: Planned) -> Head
             bytes[3] = low_byte(t.arrival);
             bytes[4] = low_of(t.count / 256);
             bytes[5] = low_of(t.count);
-            Head { bytes: bytes, count: 6 }
+            Head {
+                bytes: bytes,
+                count: 6,
+            }
         }
         Planned::Refused(r) => refused_head(r),
     }
@@ -260,7 +311,10 @@ fn book_head(b: Booked) -> Head
             bytes[6] = low_byte(t.arrival);
             bytes[7] = low_of(t.count / 256);
             bytes[8] = low_of(t.count);
-            Head { bytes: bytes, count: 9 }
+            Head {
+                bytes: bytes,
+                count: 9,
+            }
         }
         Booked::Refused(r) => refused_head(r),
     }
@@ -274,7 +328,10 @@ fn cancel_head(a: Cancelled) -> Head
             let mut bytes = [0u8; 9];
             bytes[1] = low_of(c / 256);
             bytes[2] = low_of(c);
-            Head { bytes: bytes, count: 3 }
+            Head {
+                bytes: bytes,
+                count: 3,
+            }
         }
         Cancelled::Refused(r) => refused_head(r),
     }
@@ -298,7 +355,10 @@ fn page_head(p: Paged) -> Head
             let mut bytes = [0u8; 9];
             bytes[1] = low_of(s.count);
             bytes[2] = bit_of(s.more);
-            Head { bytes: bytes, count: 3 }
+            Head {
+                bytes: bytes,
+                count: 3,
+            }
         }
         Paged::Refused(r) => refused_head(r),
     }
@@ -379,11 +439,21 @@ fn place_frame(s: State, b: &[u8; 9], out: &mut [u8]) -> Told
         return refused(s, out);
     }
     let duration = wire::two(b, 2) as u16;
-    m.places[n] = Place { capacity: b[1], duration: duration };
+    m.places[n] = Place {
+        capacity: b[1],
+        duration: duration,
+    };
     m.place_count = n + 1;
     let book = s.book;
     let len = put_number(0, out);
-    Told { state: State { map: m, book: book, closed: false }, len: len }
+    Told {
+        state: State {
+            map: m,
+            book: book,
+            closed: false,
+        },
+        len: len,
+    }
 }
 
 fn link_frame(s: State, b: &[u8; 9], out: &mut [u8]) -> Told
@@ -399,11 +469,21 @@ fn link_frame(s: State, b: &[u8; 9], out: &mut [u8]) -> Told
     if n >= 1024 {
         return refused(s, out);
     }
-    m.links[n] = Link { from: b[1], to: b[2] };
+    m.links[n] = Link {
+        from: b[1],
+        to: b[2],
+    };
     m.link_count = n + 1;
     let book = s.book;
     let len = put_number(0, out);
-    Told { state: State { map: m, book: book, closed: false }, len: len }
+    Told {
+        state: State {
+            map: m,
+            book: book,
+            closed: false,
+        },
+        len: len,
+    }
 }
 
 fn wide(x: u8) -> u32
@@ -427,7 +507,14 @@ fn plan_frame(s: State, b: &[u8; 9], out: &mut [u8]) -> Told
     let h = plan_head(p);
     let rows = plan_rows(p);
     let len = put_answer(h, &list, rows, out);
-    Told { state: State { map: m, book: book, closed: true }, len: len }
+    Told {
+        state: State {
+            map: m,
+            book: book,
+            closed: true,
+        },
+        len: len,
+    }
 }
 
 fn book_frame(s: State, b: &[u8; 9], out: &mut [u8]) -> Told
@@ -445,7 +532,14 @@ fn book_frame(s: State, b: &[u8; 9], out: &mut [u8]) -> Told
     let answer = r.answer;
     let h = book_head(answer);
     let len = put_answer(h, b, 0, out);
-    Told { state: State { map: m, book: after, closed: true }, len: len }
+    Told {
+        state: State {
+            map: m,
+            book: after,
+            closed: true,
+        },
+        len: len,
+    }
 }
 
 fn cancel_frame(s: State, b: &[u8; 9], out: &mut [u8]) -> Told
@@ -461,7 +555,14 @@ fn cancel_frame(s: State, b: &[u8; 9], out: &mut [u8]) -> Told
     let answer = r.answer;
     let h = cancel_head(answer);
     let len = put_answer(h, b, 0, out);
-    Told { state: State { map: m, book: after, closed: true }, len: len }
+    Told {
+        state: State {
+            map: m,
+            book: after,
+            closed: true,
+        },
+        len: len,
+    }
 }
 
 fn page_frame(s: State, b: &[u8; 9], out: &mut [u8]) -> Told
@@ -475,13 +576,24 @@ fn page_frame(s: State, b: &[u8; 9], out: &mut [u8]) -> Told
     let place = wide(b[2]);
     let entry = wire::three(b, 3);
     let ticket = wire::three(b, 6);
-    let cursor = Cursor { place: place, entry: entry, ticket: ticket };
+    let cursor = Cursor {
+        place: place,
+        entry: entry,
+        ticket: ticket,
+    };
     let mut list = [0u8; 14080];
     let p = paging::page(m, book, size, cursor, &mut list);
     let h = page_head(p);
     let rows = page_rows(p);
     let len = put_answer(h, &list, rows, out);
-    Told { state: State { map: m, book: book, closed: true }, len: len }
+    Told {
+        state: State {
+            map: m,
+            book: book,
+            closed: true,
+        },
+        len: len,
+    }
 }
 
 // What a line makes of the state, and the bytes that it prints, over the first of out.
