@@ -27,8 +27,8 @@ use Rattle.lanes.specs.Chosen.{chosen-best}
 use Rattle.keeping.specs.Calls.{unless, empty-good, booking-good, cancelling-good}
 use Rattle.keeping.specs.Books.{rows-of-book}
 use Rattle.keeping.specs.Keeping.{book-rows, rows-book, cancel-rows, rows-cancel}
-use Rattle.walks.specs.Walk.{Walk, Walked}
-use Rattle.walks.specs.WalkLaws.{walked}
+use Rattle.walks.specs.Walk.{Others, Walk, Walked}
+use Rattle.walks.specs.WalkLaws.{others-good, walked}
 use Rattle.rules.specs.Portal.{PortalPlan, PortalPage}
 use Rattle.unique.specs.Unique.{no-second-plan, no-second-booking, no-second-cancelling, no-second-page, no-second-portal-plan, no-second-portal-page}
 
@@ -167,6 +167,10 @@ a-booking-keeps-it-good = booking-good
 
 pub a-cancellation-keeps-it-good : {m : Map} {b : Book} {ticket : ℕ} {r : Cancelling} → CancelIs m b ticket r → GoodBook (mapYard m) b → GoodBook (mapYard m) (r .book)
 a-cancellation-keeps-it-good = cancelling-good
+
+-- over any calls in any order, refused ones too: `Others` (walks/specs/Walk.antt) lists them
+pub the-book-is-always-good : {m : Map} {b : Book} → Others m (bookOf [] 1) b → GoodBook (mapYard m) b
+the-book-is-always-good {m} calls = others-good calls (the-empty-book-is-good (mapYard m))
 
 -- ---- demand 3: "Take a walk over one book from the first cursor to a page that says no more .. while others plan, book and cancel between pages."
 -- `Walked` (walks/specs/Walk.antt) has its five sentences.
