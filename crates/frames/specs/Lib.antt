@@ -6,3 +6,4 @@ pub mod Told
 pub mod Saying
 pub mod Frames
 pub mod Answering
+pub mod Cutting

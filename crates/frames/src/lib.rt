@@ -11,6 +11,7 @@ use rules::Paged;
 use rules::Place;
 use rules::Planned;
 use rules::Refusal;
+use rules::Row;
 use rules::State;
 ghost use mathlib.Core.Path.{_≡_};
 ghost use Prim.Native.Nat.{ℕ, _+_, _*_, _%_, _<_, _≤_};
@@ -18,12 +19,13 @@ ghost use mathlib.Core.List.{List, [], _∷_, _++_};
 ghost use lib.ListN.{length, take, drop};
 ghost use Rattle.rules.specs.Rows.{bit};
 ghost use Rattle.rules.specs.Answer.{number, plannedNumber, plannedArrival, plannedCount, bookedNumber, bookedTicket, bookedArrival, bookedCount, cancelledNumber, cancelledCount, pagedNumber, pagedCount, pagedMore};
-ghost use Rattle.rules.specs.Frames.{digit, hexOf, lineOf, rowLines, after00, bytes2, bytes3, Said, PlaceFrame, LinkFrame, PlanFrame, BookFrame, CancelFrame, PageFrame};
+ghost use Rattle.rules.specs.Frames.{digit, hexOf, lineOf, rowLines, after00, bytes2, bytes3, Said, PlaceFrame, LinkFrame, PlanFrame, BookFrame, CancelFrame, PageFrame, begins};
 ghost use Rattle.frames.specs.Hex.{Value};
 ghost use Rattle.frames.specs.Lines.{LineIs, Decoded, FormIs};
 ghost use Rattle.frames.specs.Heads.{HeadIs};
 ghost use Rattle.frames.specs.Told.{Answers, Spoken};
 ghost use Rattle.frames.specs.Saying.{Tells};
+ghost use Rattle.frames.specs.Cutting.{CutIs, Stepped, FedIs, Ends};
 ghost use Rattle.frames.specs.Put.{Put, Digits, RowsPut};
 
 // The digits of a line, of which a frame has at most 18: len 19 stands for any longer line.
@@ -620,5 +622,166 @@ pub fn answer(s: State, l: Line, out: &mut [u8]) -> Told
         Decoder::Cancel => cancel_frame(s, &bytes, out),
         Decoder::Page => page_frame(s, &bytes, out),
         Decoder::Nothing => refused(s, out),
+    }
+}
+
+// ---- input cut into lines
+
+// What stands between two reads: the state, and the line that is begun.
+pub struct Desk {
+    pub state: State,
+    pub line: Line,
+}
+
+// The line as far as the bytes reach: to its line feed, or to their end.
+struct Cut {
+    line: Line,
+    upto: usize,
+    ended: bool,
+}
+
+fn take_line(l: Line, buf: &[u8], from: usize) -> Cut
+    requires { ⌜ from ≤ length (now buf) ⌝ }
+    ensures { λ r. ⌜ CutIs l (now (buf .entry)) from r ⌝ }
+{
+    let mut line = l;
+    let mut i = from;
+    while i < buf.len() {
+        let c = buf[i];
+        if c == 10 {
+            return Cut {
+                line: line,
+                upto: i + 1,
+                ended: true,
+            };
+        }
+        line = line.push(c);
+        i += 1;
+    }
+    Cut {
+        line: line,
+        upto: i,
+        ended: false,
+    }
+}
+
+// How far the bytes are taken, and how many bytes of answers are in the caller's list.
+pub struct Intake {
+    pub desk: Desk,
+    pub upto: usize,
+    pub len: usize,
+}
+
+// The line that is begun, taken as far as the bytes reach, and answered where they end it.
+fn step(d: Desk, buf: &[u8], from: usize, at: usize, out: &mut [u8]) -> Intake
+    requires { ⌜ from ≤ length (now buf) ⌝ }
+    requires { ⌜ at + 30000 ≤ length (now out) ⌝ }
+    ensures { λ r. ⌜ Stepped d (now (buf .entry)) from at (now (out .entry)) (now (out .exit)) r ⌝ }
+{
+    let s = d.state;
+    let begun = d.line;
+    let c = take_line(begun, buf, from);
+    let line = c.line;
+    if c.ended {
+        let t = answer(s, line, &mut out[at..]);
+        let after = t.state;
+        let next = Line::empty();
+        return Intake {
+            desk: Desk {
+                state: after,
+                line: next,
+            },
+            upto: c.upto,
+            len: at + t.len,
+        };
+    }
+    Intake {
+        desk: Desk {
+            state: s,
+            line: line,
+        },
+        upto: c.upto,
+        len: at,
+    }
+}
+
+// The answers of the lines that the bytes from an index on end, as long as the caller's list has room for one more.
+pub fn fed(d: Desk, buf: &[u8], from: usize, out: &mut [u8]) -> Intake
+    requires { ⌜ from ≤ length (now buf) ⌝ }
+    requires { ⌜ 30000 ≤ length (now out) ⌝ }
+    ensures { λ r. ⌜ FedIs d (now (buf .entry)) from (now (out .entry)) (now (out .exit)) r ⌝ }
+{
+    let mut e = d;
+    let mut i = from;
+    let mut at: usize = 0;
+    while i < buf.len() {
+        if out.len() - at < 30000 {
+            return Intake {
+                desk: e,
+                upto: i,
+                len: at,
+            };
+        }
+        let f = step(e, buf, i, at, out);
+        let after = f.desk;
+        e = after;
+        i = f.upto;
+        at = f.len;
+    }
+    Intake {
+        desk: e,
+        upto: i,
+        len: at,
+    }
+}
+
+// The last line, where it lacks its line feed.
+pub fn ended(d: Desk, out: &mut [u8]) -> Told
+    requires { ⌜ 30000 ≤ length (now out) ⌝ }
+    ensures { λ r. ⌜ Spoken (Ends d) (now (out .entry)) (now (out .exit)) r ⌝ }
+{
+    let s = d.state;
+    let line = d.line;
+    if line.len == 0 {
+        return Told { state: s, len: 0 };
+    }
+    answer(s, line, out)
+}
+
+impl Desk {
+    // "`lanebook` begins with no places, no links and an empty book whose next ticket is 1."
+    pub fn first() -> Self
+        ensures { λ r. ⌜ (r .state ≡ begins) × LineIs [] (r .line) ⌝ }
+    {
+        let place = Place {
+            capacity: 0,
+            duration: 0,
+        };
+        let link = Link { from: 0, to: 0 };
+        let row = Row {
+            place: 0,
+            entry: 0,
+            ticket: 0,
+            exit: 0,
+            next: 0,
+        };
+        let m = Map {
+            places: [place; 256],
+            links: [link; 1024],
+            place_count: 0,
+            link_count: 0,
+        };
+        let b = Book {
+            rows: [row; 1024],
+            count: 0,
+            next_ticket: 1,
+        };
+        let s = State {
+            map: m,
+            book: b,
+            closed: false,
+        };
+        let l = Line::empty();
+        Desk { state: s, line: l }
     }
 }

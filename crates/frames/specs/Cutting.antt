@@ -152,14 +152,13 @@ cut-ended {l} {m} {buf} {from} {i} G h e = record {
   all = λ k. let z : _≡_ {A = ℕ} 0 1 = cc in absurd (omega arith);
   going = λ k. let z : _≡_ {A = ℕ} 0 1 = cc in absurd (omega arith);
   ended = λ k line L.
-    let s = slice-snoc from i buf (G .after) h in
-    let w : List ℕ = begunLine line (slice from i buf) in
-    (
-      w,
-      rw (s, whole-append line (slice from i buf) (getD buf i 0 ∷ []), G .whole line L) (whole-feed w (getD buf i 0) e),
-      rw (s, begun-append line (slice from i buf) (getD buf i 0 ∷ [])) (begun-feed w (getD buf i 0) e),
-      G .begun line L,
-    );
+      let s = slice-snoc from i buf (G .after) h in
+      let w : List ℕ = begunLine line (slice from i buf) in (
+        w,
+        rw (s, whole-append line (slice from i buf) (getD buf i 0 ∷ []), G .whole line L) (whole-feed w (getD buf i 0) e),
+        rw (s, begun-append line (slice from i buf) (getD buf i 0 ∷ [])) (begun-feed w (getD buf i 0) e),
+        G .begun line L,
+      );
 }
 
 pub cut-going : {l m : Line} {buf : List ℕ} {from i : ℕ} → Going l buf from i m → i ≡ length buf → CutIs l buf from (record { line = m; upto = i; ended = false })
@@ -325,8 +324,8 @@ Ends d s said = (line : List ℕ) → LineIs line (d .line) → LinesSay (d .sta
 pub nothing-begun : (d : Desk) (was : List ℕ) → d .line .len ≡ 0 → Spoken (Ends d) was was (record { state = d .state; len = 0 })
 nothing-begun d was e = record {
   says = λ line L.
-    let n : line ≡ [] = L .short (omega arith) ∙ ap (λ (k : ℕ). take k (d .line .digits)) e in
-    rw n none;
+      let n : line ≡ [] = L .short (omega arith) ∙ ap (λ (k : ℕ). take k (d .line .digits)) e in
+      rw n none;
   kept = refl;
   fits = omega arith;
   long = refl;
