@@ -1,7 +1,8 @@
 /*
- * How much stack a chain of 1,024 windows takes. Two places of one wagon each are blocked in turn, second by second, so that
- * a wagon is driven back and forth between them until its destination is free. The call runs in a thread whose stack was painted
- * before; the header promises that 128 KiB are enough.
+ * How much stack the longest plans take. A line of 255 places of one wagon each, driven back and forth: four booked wagons sweep the
+ * line in turn, to its end and back, each a second behind the wagon that is planned, which can neither wait nor turn round before
+ * the line's end. Its destination, behind the line's last place, is free only after the fifth sweep, so the plan goes through every
+ * free window there is. The call runs in a thread whose stack was painted before; the header promises that 128 KiB are enough.
  * usage: portal_stack
  */
 #define _GNU_SOURCE
@@ -11,9 +12,20 @@
 #include <string.h>
 #include <sys/mman.h>
 
-enum { TURNS = 511, FREE_AT = 2 * TURNS + 1, STAYS = 2 * TURNS + 2, ROWS = 2 * TURNS + 1, STACK = 1 << 20, PROMISED = 128 << 10, PAINT = 0xA5 };
+enum {
+    LINE = 255,
+    SWEEP = LINE - 1,
+    SWEEPS = 4,
+    LINKS = 2 * SWEEP + 1,
+    ROWS = SWEEPS * SWEEP + 1,
+    STAYS = LINE + SWEEPS * SWEEP + 1,
+    FREE_AT = (SWEEPS + 1) * SWEEP + 1,
+    STACK = 1 << 20,
+    PROMISED = 128 << 10,
+    PAINT = 0xA5
+};
 
-static uint8_t map[4 + 3 * 3 + 4 * 2];
+static uint8_t map[4 + 3 * (LINE + 1) + 2 * LINKS];
 static uint8_t book[5 + 11 * ROWS];
 static uint8_t answer[LANEBOOK_ANSWER_BYTES(LANEBOOK_MOST_STAYS)];
 static uint64_t result;
@@ -26,39 +38,49 @@ static uint8_t *put(uint8_t *at, int width, uint32_t number)
     return at;
 }
 
-/* A run of one stay. */
-static uint8_t *put_run(uint8_t *at, uint32_t place, uint32_t entry, uint32_t exit, uint32_t ticket)
+static uint8_t *put_row(uint8_t *at, uint32_t place, uint32_t entry, uint32_t ticket, uint32_t exit, uint32_t next)
 {
     at = put(put(put(at, 1, place), 3, entry), 3, ticket);
-    return put(put(at, 3, exit), 1, place);
+    return put(put(at, 3, exit), 1, next);
 }
 
-static void fill(void)
+static void fill_map(void)
 {
-    uint8_t *at = put(put(map, 2, 3), 2, 4);
-    at = put(put(at, 1, 1), 2, 1);
-    at = put(put(at, 1, 1), 2, 1);
+    uint8_t *at = put(put(map, 2, LINE + 1), 2, LINKS);
+    for (uint32_t place = 0; place < LINE; place++) {
+        at = put(put(at, 1, 1), 2, 1);
+    }
     at = put(put(at, 1, 1), 2, FREE_AT);
-    at = put(put(at, 1, 0), 1, 1);
-    at = put(put(at, 1, 1), 1, 0);
-    at = put(put(at, 1, 0), 1, 2);
-    put(put(at, 1, 1), 1, 2);
+    for (uint32_t place = 0; place < SWEEP; place++) {
+        at = put(put(at, 1, place), 1, place + 1);
+        at = put(put(at, 1, place + 1), 1, place);
+    }
+    put(put(at, 1, SWEEP), 1, LINE);
+}
 
-    uint32_t ticket = 1;
-    at = put(put(book, 3, ROWS + 1), 2, ROWS);
-    for (uint32_t place = 0; place < 2; place++) {
-        for (uint32_t turn = 0; turn < TURNS; turn++) {
-            uint32_t entry = 2 * turn + 1 + place;
-            at = put_run(at, place, entry, entry + 1, ticket++);
+/* The wagon that is planned begins sweep k at second k * SWEEP, at one end of the line; ticket k + 1 begins there a second later and
+   ends one place before the other end. */
+static void fill_book(void)
+{
+    uint8_t *at = put(put(book, 3, SWEEPS + 2), 2, ROWS);
+    for (uint32_t place = 0; place < LINE; place++) {
+        for (uint32_t sweep = 0; sweep < SWEEPS; sweep++) {
+            uint32_t back = sweep % 2;
+            uint32_t done = back ? SWEEP - place : place;
+            uint32_t entry = sweep * SWEEP + done + 1;
+            uint32_t next = done == SWEEP - 1 ? place : back ? place - 1 : place + 1;
+            if (done < SWEEP) {
+                at = put_row(at, place, entry, sweep + 1, entry + 1, next);
+            }
         }
     }
-    put_run(at, 2, 0, FREE_AT, ticket);
+    put_row(at, LINE, 0, SWEEPS + 1, FREE_AT, LINE);
 }
 
 static void *call(void *unused)
 {
     (void)unused;
-    result = lanebook_plan(map, sizeof map, book, sizeof book, 0, 2, 0, answer, sizeof answer);
+    result = lanebook_plan(map, sizeof map, book, sizeof book, 0, LINE, 0, answer, sizeof answer);
     return NULL;
 }
 
@@ -71,7 +93,8 @@ int main(void)
         puts("no memory for a stack");
         return 1;
     }
-    fill();
+    fill_map();
+    fill_book();
     memset(stack, PAINT, STACK);
     if (pthread_attr_init(&attributes) || pthread_attr_setstack(&attributes, stack, STACK) || pthread_create(&thread, &attributes, call, NULL)
         || pthread_join(thread, NULL)) {
