@@ -239,7 +239,7 @@ step-answered d buf from at was p {c} {t} {l} C e h S L n =
 
 -- ---- as many lines as there is room for
 
-slice-join : (f i j : ℕ) (l : List ℕ) → f ≤ i → i ≤ j → j ≤ length l → slice f i l ++ slice i j l ≡ slice f j l
+pub slice-join : (f i j : ℕ) (l : List ℕ) → f ≤ i → i ≤ j → j ≤ length l → slice f i l ++ slice i j l ≡ slice f j l
 slice-join f i j l a b c =
     let t : List ℕ = take j l in
     let e : take i t ≡ take i l = take-take i j l b in
