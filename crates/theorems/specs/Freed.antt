@@ -1,22 +1,32 @@
--- What a cancellation gives back and what it keeps: the load of the ticket's rows is gone and no other, what was permitted stays permitted, and
--- the next ticket never falls.
-use Prim.Native.Nat.{ℕ, suc, _+_, _≤_}
-use mathlib.Core.Path.{_≡_, refl, ap}
+-- What a cancellation gives back and what it keeps: the load of the ticket's rows is gone and no other, what was permitted stays permitted, the run
+-- that was cancelled is permitted again, and the next ticket never falls.
+use Prim.Native.Nat.{ℕ, zero, suc, _+_, _-_, _≤_, _<_}
+use mathlib.Core.Path.{_≡_, refl, sym, ap, ap₂, subst, _∙_}
+use mathlib.Core.Logic.{⊎-elim}
 use mathlib.Core.Bool.{Bool, true, false, not}
-use mathlib.Core.List.{List, [], _∷_}
+use mathlib.Core.List.{List, [], _∷_, List·Memᴰ, List·Memᴰ·head, List·Memᴰ·tail, List·Memᴰ·not-nil, List·Memᴰ·cases-cons}
 use native.Mathlib.Omega.{arith}
+use lib.ListN.{length}
+use Rattle.laws.specs.Order.{eq-or-ne}
+use Rattle.laws.specs.Tests.{not-both}
 use Rattle.rules.specs.declared.Map.{Map}
 use Rattle.rules.specs.declared.Book.{Book}
 use Rattle.rules.specs.declared.Row.{Row}
 use Rattle.rules.specs.declared.Booking.{Booking}
 use Rattle.rules.specs.declared.Cancelling.{Cancelling}
 use Rattle.rules.specs.Map.{Yard}
-use Rattle.rules.specs.Rows.{load, choose, keep}
-use Rattle.rules.specs.Plan.{Stay, stayAt, Permitted}
-use Rattle.rules.specs.Book.{ofTicket, otherTicket}
+use Rattle.rules.specs.Rows.{Key, rowKey, Less, Rising, load, crosses, choose, keep, insertAll}
+use Rattle.rules.specs.Plan.{Stay, stayAt, Permitted, stayRow, runRows}
+use Rattle.rules.specs.Book.{WellFormed, Whole, ofTicket, otherTicket}
 use Rattle.rules.specs.Answer.{BookIs, BookingIs, CancelIs, CancellingIs}
 use Rattle.keeping.specs.Calls.{unless}
-use Rattle.keeping.specs.Loads.{load-keep, crosses-keep}
+use Rattle.keeping.specs.OrderLaws.{less-trans, less-irrefl}
+use Rattle.keeping.specs.Chains.{chain-below, rising-tail, rising-chain}
+use Rattle.keeping.specs.Changes.{keep-rising, mem-all, all-old, all-new, AllNew, all-rising}
+use Rattle.keeping.specs.Runs.{run-ticket, run-load, run-apart}
+use Rattle.keeping.specs.Keeping.{cancel-rows, rows-cancel}
+use Rattle.keeping.specs.Loads.{load-all, load-keep, crosses-keep}
+use Rattle.lanes.specs.Yards.{YardRules}
 use Rattle.walks.specs.Walk.{Others}
 use Rattle.walks.specs.Walk.Others.{rests, plans, books, cancels, looks}
 
@@ -41,6 +51,75 @@ fewer-permit {rows} {plan} f P = record {
   room = λ p t h. omega (arith, load-keep p t f rows, P .room p t h);
   exchange = λ i h. crosses-keep ((stayAt plan (suc i)) .place) ((stayAt plan i) .place) ((stayAt plan i) .exit) f rows (P .exchange i h);
 }
+
+-- rows in key order are given by what they are
+pub rising-same : (a b : List Row) → Rising a → Rising b → ((x : Row) → List·Memᴰ x a → List·Memᴰ x b) → ((x : Row) → List·Memᴰ x b → List·Memᴰ x a) → a ≡ b
+rising-same [] [] R S f g = refl
+rising-same [] (y ∷ b) R S f g = absurd (List·Memᴰ·not-nil (g y (List·Memᴰ·head refl)))
+rising-same (x ∷ a) [] R S f g = absurd (List·Memᴰ·not-nil (f x (List·Memᴰ·head refl)))
+rising-same (x ∷ a) (y ∷ b) R S f g = ap₂ (λ (z : Row) (l : List Row). z ∷ l) first (rising-same a b (rising-tail R) (rising-tail S) f′ g′)
+  where
+    above : (z : Row) → List·Memᴰ z a → Less (rowKey x) (rowKey z)
+    above z = chain-below (rising-chain x a R)
+
+    over : (z : Row) → List·Memᴰ z b → Less (rowKey y) (rowKey z)
+    over z = chain-below (rising-chain y b S)
+
+    first : x ≡ y
+    first = ⊎-elim (λ (e : x ≡ y). e)
+        (λ (m : List·Memᴰ x b). ⊎-elim (λ (e : y ≡ x). sym e) (λ (n : List·Memᴰ y a). absurd (less-irrefl (less-trans (over x m) (above y n)))) (List·Memᴰ·cases-cons (g y (List·Memᴰ·head refl))))
+        (List·Memᴰ·cases-cons (f x (List·Memᴰ·head refl)))
+
+    f′ : (z : Row) → List·Memᴰ z a → List·Memᴰ z b
+    f′ z m = ⊎-elim (λ (e : z ≡ y). absurd (less-irrefl (subst (λ (w : Row). Less (rowKey x) (rowKey w)) (e ∙ sym first) (above z m)))) (λ n. n) (List·Memᴰ·cases-cons (f z (List·Memᴰ·tail m)))
+
+    g′ : (z : Row) → List·Memᴰ z b → List·Memᴰ z a
+    g′ z m = ⊎-elim (λ (e : z ≡ x). absurd (less-irrefl (subst (λ (w : Row). Less (rowKey y) (rowKey w)) (e ∙ first) (over z m)))) (λ n. n) (List·Memᴰ·cases-cons (g z (List·Memᴰ·tail m)))
+
+-- what holds of the crossings of a plan's rows holds of its stays
+run-meets : (k : ℕ) (rows : List Row) (plan : List Stay) → ((i : ℕ) → suc i < length plan → (stayAt plan (suc i)) .place ≡ (stayAt plan i) .place → ⊥)
+    → ((r : Row) → List·Memᴰ r (runRows k plan) → (r .next ≡ r .place → ⊥) → crosses rows (r .next) (r .place) (r .exit) ≡ false)
+    → (i : ℕ) → suc i < length plan → crosses rows ((stayAt plan (suc i)) .place) ((stayAt plan i) .place) ((stayAt plan i) .exit) ≡ false
+run-meets k rows [] a f i h = absurd (omega arith)
+run-meets k rows (x ∷ []) a f i h = absurd (omega arith)
+run-meets k rows (x ∷ (y ∷ ys)) a f zero h = f (stayRow k x (y .place)) (List·Memᴰ·head refl) (a 0 h)
+run-meets k rows (x ∷ (y ∷ ys)) a f (suc i) h = run-meets k rows (y ∷ ys) (λ j l. a (suc j) (omega arith)) (λ r m. f r (List·Memᴰ·tail m)) i (omega arith)
+
+-- a plan for its own first place, first entry and last place
+abbrev pub PermittedRun : Yard → List Row → List Stay → Type 0
+PermittedRun Y rows plan = Permitted Y rows ((stayAt plan 0) .place) ((stayAt plan (length plan - 1)) .place) ((stayAt plan 0) .entry) plan
+
+-- the run of a ticket is permitted beside the other rows of its book
+module _ {Y : Yard} {rows : List Row} {t : ℕ} (rules : YardRules Y) (W : WellFormed Y rows t) (k : ℕ) (o : Whole Y rows k) where
+  abbrev rest : List Row
+  rest = keep (otherTicket k) rows
+
+  abbrev new : List Row
+  new = runRows k (o .plan)
+
+  parted : AllNew new rest
+  parted = record {
+    fresh = λ x m y d e. cancel-rows k rows y d .1 (ap (λ (q : Key). q .ticket) e ∙ run-ticket k (o .plan) x m);
+    apart = run-apart k rules (o .plan) (o .is-plan);
+  }
+
+  joined : insertAll new rest ≡ rows
+  joined = rising-same (insertAll new rest) rows (all-rising new rest (keep-rising (otherTicket k) rows (W .rising)) parted) (W .rising)
+      (λ x m. ⊎-elim (λ (d : List·Memᴰ x new). o .booked x d) (λ (d : List·Memᴰ x rest). cancel-rows k rows x d .0) (mem-all new x rest m))
+      (λ x m. ⊎-elim (λ (e : x .ticket ≡ k). all-new new x rest (o .only x m e)) (λ (ne : x .ticket ≡ k → ⊥). all-old new x rest (rows-cancel k rows x (m, ne))) (eq-or-ne (x .ticket) k))
+
+  pub run-permitted : PermittedRun Y rest (o .plan)
+  run-permitted = record {
+    run = o .is-plan;
+    first-place = refl;
+    first-entry = refl;
+    last-place = λ i e. let n : i ≡ length (o .plan) - 1 = omega arith in ap (λ (j : ℕ). (stayAt (o .plan) j) .place) n;
+    room = λ p x h. omega (arith, load-all p x new rest, run-load k (o .plan) p x, ap (λ (l : List Row). load l p x) joined, W .room p x h);
+    exchange = run-meets k rest (o .plan) moves (λ r m ne. crosses-keep (r .next) (r .place) (r .exit) (otherTicket k) rows (W .exchange r (o .booked r m) ne));
+  }
+    where
+      moves : (i : ℕ) → suc i < length (o .plan) → (stayAt (o .plan) (suc i)) .place ≡ (stayAt (o .plan) i) .place → ⊥
+      moves i h e = not-both (subst (λ (q : ℕ). Y .link ((stayAt (o .plan) i) .place) q ≡ true) e (o .is-plan .goes i h)) (rules .no-loop ((stayAt (o .plan) i) .place))
 
 pub booking-next : {m : Map} {b : Book} {start dest s : ℕ} {r : Booking} → BookIs m b start dest s r → b .«next_ticket» ≤ r .book .«next_ticket»
 booking-next {b} {r} = unless same (λ M. unless same (λ B. unless same (λ on. unless same (λ d. unless same (λ t. unless same (λ some c. unless same (λ fits x. up x refl) (c .2)))))))

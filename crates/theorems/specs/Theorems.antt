@@ -16,19 +16,20 @@ use Rattle.rules.specs.declared.Booking.{Booking}
 use Rattle.rules.specs.declared.Cancelling.{Cancelling}
 use Rattle.rules.specs.Limits.{day}
 use Rattle.rules.specs.Map.{Yard, GoodMap, mapYard}
-use Rattle.rules.specs.Rows.{Key, firstKey, keep, insertAll}
+use Rattle.rules.specs.Rows.{Key, firstKey, load, keep, insertAll}
 use Rattle.rules.specs.Plan.{Stay, Permitted, arrival, runRows}
-use Rattle.rules.specs.Book.{GoodBook, rowsOf, bookOf, otherTicket}
+use Rattle.rules.specs.Book.{GoodBook, Whole, rowsOf, bookOf, ofTicket, otherTicket}
 use Rattle.rules.specs.Page.{pageRows, pageMore, lastKey}
 use Rattle.rules.specs.Chosen.{Chosen}
-use Rattle.rules.specs.Answer.{Unless, records, written, over, PlanIs, PlanRecords, Planning, plannedNumber, plannedArrival, plannedCount, BookIs, BookingIs, bookedNumber, bookedTicket, bookedArrival, bookedCount, CancelIs, CancellingIs, cancelledNumber, cancelledCount, PageIs, PageRecords, PagingIs, pagedNumber, pagedCount, pagedMore, pagedCursor}
+use Rattle.rules.specs.Answer.{Unless, records, written, over, PlanIs, PlanRecords, Planning, plannedNumber, plannedArrival, plannedCount, BookIs, BookingIs, bookedNumber, bookedTicket, bookedArrival, bookedCount, CancelIs, CancellingIs, Known, cancelledNumber, cancelledCount, PageIs, PageRecords, PagingIs, pagedNumber, pagedCount, pagedMore, pagedCursor}
 use Rattle.lanes.specs.Yards.{yard-rules}
 use Rattle.lanes.specs.Chosen.{chosen-best}
 use Rattle.keeping.specs.Calls.{unless, empty-good, booking-good, cancelling-good}
 use Rattle.keeping.specs.Books.{rows-of-book}
-use Rattle.keeping.specs.Keeping.{book-rows, rows-book, cancel-rows, rows-cancel}
+use Rattle.keeping.specs.Keeping.{row-ranges, book-rows, rows-book, cancel-rows, rows-cancel}
 use Rattle.walks.specs.Walk.{Others, Walk, Walked}
 use Rattle.walks.specs.WalkLaws.{others-good, walked}
+use Rattle.theorems.specs.Freed.{load-split, fewer-permit, PermittedRun, run-permitted, cancelling-next, others-next}
 use Rattle.rules.specs.Portal.{PortalPlan, PortalPage}
 use Rattle.unique.specs.Unique.{no-second-plan, no-second-booking, no-second-cancelling, no-second-page, no-second-portal-plan, no-second-portal-page}
 
@@ -127,7 +128,6 @@ module _ {m : Map} {b : Book} {start dest s : ℕ} {r : Booking} (P : BookIs m b
 pub record Taken (b : Book) (ticket : ℕ) (r : Cancelling) : Type 0 where
   pub gone : (x : Row) → List·Memᴰ x (rowsOf (r .book)) → List·Memᴰ x (rowsOf b) × (x .ticket ≡ ticket → ⊥)
   pub others-stay : (x : Row) → List·Memᴰ x (rowsOf b) × (x .ticket ≡ ticket → ⊥) → List·Memᴰ x (rowsOf (r .book))
-  -- the ticket number is never issued again: the next ticket stays above it
   pub next-stays : r .book .«next_ticket» ≡ b .«next_ticket»
 
 module _ {m : Map} {b : Book} {ticket : ℕ} {r : Cancelling} (P : CancelIs m b ticket r) where
@@ -146,6 +146,41 @@ module _ {m : Map} {b : Book} {ticket : ℕ} {r : Cancelling} (P : CancelIs m b 
             others-stay = λ y h. subst (λ (l : List Row). List·Memᴰ y l) (sym e) (rows-cancel ticket (rowsOf b) y h);
             next-stays = ap (λ (z : Book). z .«next_ticket») (x .holds);
           }
+
+-- the room can be used again: each place has the ticket's own load less, what was permitted stays permitted, and the run itself is permitted again
+pub record Freed (m : Map) (b : Book) (ticket : ℕ) (r : Cancelling) : Type 0 where
+  pub load-falls : (p t : ℕ) → load (rowsOf b) p t ≡ load (rowsOf (r .book)) p t + load (keep (ofTicket ticket) (rowsOf b)) p t
+  pub still-permitted : {start dest s : ℕ} {plan : List Stay} → Permitted (mapYard m) (rowsOf b) start dest s plan → Permitted (mapYard m) (rowsOf (r .book)) start dest s plan
+  pub run : Whole (mapYard m) (rowsOf b) ticket
+  pub permitted-again : PermittedRun (mapYard m) (rowsOf (r .book)) (run .plan)
+
+module _ {m : Map} {b : Book} {ticket : ℕ} {r : Cancelling} (P : CancelIs m b ticket r) where
+  pub the-room-is-free-again : cancelledNumber (r .answer) ≡ 0 → Freed m b ticket r
+  the-room-is-free-again z = unless wrong (λ M. unless wrong (λ B. unless wrong (λ known x. freed M B known x))) P
+    where
+      wrong : {n c : ℕ} {l : Book} → CancellingIs (suc n) c l r → Freed m b ticket r
+      wrong x = absurd (omega (arith, x .code))
+
+      freed : GoodMap m → GoodBook (mapYard m) b → Known (rowsOf b) ticket → {c : ℕ} → CancellingIs 0 c (bookOf (keep (otherTicket ticket) (rowsOf b)) (b .«next_ticket»)) r → Freed m b ticket r
+      freed M B known x =
+          let rows = keep (otherTicket ticket) (rowsOf b) in
+          let e : rows ≡ rowsOf (r .book) = sym (ap rowsOf (x .holds) ∙ rows-of-book rows (b .«next_ticket»)) in
+          let run : Whole (mapYard m) (rowsOf b) ticket = subst (Whole (mapYard m) (rowsOf b)) (known .has) (B .formed .whole (known .row) (known .booked)) in
+          record {
+            load-falls = λ p t. subst (λ (l : List Row). load (rowsOf b) p t ≡ load l p t + load (keep (ofTicket ticket) (rowsOf b)) p t) e (load-split p t ticket (rowsOf b));
+            still-permitted = λ {start} {dest} {s} {plan} h. subst (λ (l : List Row). Permitted (mapYard m) l start dest s plan) e (fewer-permit (otherTicket ticket) h);
+            run = run;
+            permitted-again = subst (λ (l : List Row). PermittedRun (mapYard m) l (run .plan)) e (run-permitted (yard-rules (M .rules)) (B .formed) ticket run);
+          }
+
+  -- "a cancelled ticket's number given out again" can't be: whatever others plan, book, cancel and look at in between, no booking issues it
+  pub a-cancelled-ticket-is-never-issued-again : cancelledNumber (r .answer) ≡ 0 → {c : Book} → Others m (r .book) c → {start dest s : ℕ} {later : Booking} → BookIs m c start dest s later
+      → bookedNumber (later .answer) ≡ 0 → bookedTicket (later .answer) ≡ ticket → ⊥
+  a-cancelled-ticket-is-never-issued-again z {c} o L done e =
+      unless wrong (λ M. unless wrong (λ B. unless wrong (λ known x. omega (arith, row-ranges (B .formed) (known .row) (known .booked) .ticket-to, known .has, cancelling-next P, others-next o, booking-adds L done .issues)))) P
+    where
+      wrong : {n c : ℕ} {l : Book} → CancellingIs (suc n) c l r → ⊥
+      wrong x = omega (arith, x .code)
 
 -- ---- demand 2: "a page shows exactly the next rows after its cursor"
 
