@@ -47,7 +47,7 @@ module _ {b : Book} {C D F T H L : List ℕ} {n k : ℕ} {K X N P S E I : List �
   pub room-there : (p t : ℕ) → p < Y .places → load (rowsIn K X N (b .count)) p t ≤ Y .cap p
   room-there p t h = subst (λ (rows : List Row). load rows p t ≤ Y .cap p) (sym (Q .rows)) (Q .formed .room p t h)
 
-  module _ {start dest s : ℕ} {lab path : List ℕ} {r : ℕ} (R : Routed Y (rowsIn K X N (b .count)) start dest s m D P lab path r) where
+  module _ {start dest s : ℕ} {lab path : List ℕ} {r : ℕ} (R : Routed Y (rowsIn K X N (b .count)) start dest s m D P S E lab path r) where
     abbrev plan : List Stay
     plan = planOf D P lab (take r path)
 

@@ -72,6 +72,11 @@ module _ (n top src s : ℕ) (next : ℕ → ℕ → ℕ → ℕ) where
     pub wanted : goal u ≡ true
     pub least : (v x : ℕ) → goal v ≡ true → At v x → Ahead t u x v
 
+  -- the labels tell all entries up to b: a label of at most b is its node's first entry, and a node of a later label is entered only after b
+  pub record Known (dist : ℕ → ℕ) (b : ℕ) : Type 0 where
+    pub first : (v : ℕ) → v < n → dist v ≤ b → First v (dist v)
+    pub after : (v t : ℕ) → v < n → b < dist v → At v t → b < t
+
   pub at-lt : s < top → {v t : ℕ} → At v t → t < top
   at-lt s-in here = s-in
   at-lt s-in (on v x a h e k) = k
@@ -195,6 +200,13 @@ module _ (n top src s : ℕ) (next : ℕ → ℕ → ℕ → ℕ) where
           pub end-done : (v : ℕ) → v < n → dist v < top → done v ≡ true
           end-done v k h = reached (I .real v k h)
 
+          -- the labels tell all entries
+          pub known-end : (b : ℕ) → suc b ≡ top → Known dist b
+          known-end b e = record {
+            first = λ v k l. I .first v k (end-done v k (omega arith));
+            after = λ v t k l a. absurd (end-never v t k (omega arith) a);
+          }
+
           pub not-sought : {goal : ℕ → Bool} → ((w : ℕ) → w < n → done w ≡ true → goal w ≡ false) → (v t : ℕ) → goal v ≡ true → At v t → ⊥
           not-sought g v t w a = not-both w (g v (at-in a) (reached a))
 
@@ -238,6 +250,22 @@ module _ (n top src s : ℕ) (next : ℕ → ℕ → ℕ → ℕ) where
                   ⊎-elim (λ (l : dist v ≤ x). record { le = omega (arith, A .le); tie = λ c. A .tie (omega arith) })
                   (λ (l : dist u < x). record { le = omega arith; tie = λ c. absurd (omega arith) })
                   (nearer (dist u) low-u a o)
+
+          -- the labels tell all entries up to u's: also those of open nodes that are entered at the same second
+          pub known-stop : Known dist (dist u)
+          known-stop = record {
+            first = λ v k l. ⊎-elim (λ d. I .first v k d) (λ o. tied v k l o) (true-or-false (done v));
+            after = λ v t k l a. ⊎-elim (λ d. absurd (omega (arith, settled-le v k (inl d)))) (λ o. past v t l a o) (true-or-false (done v));
+          }
+            where
+              tied : (v : ℕ) → v < n → dist v ≤ dist u → done v ≡ false → First v (dist v)
+              tied v k l o = record {
+                at = I .real v k (omega arith);
+                least = λ t a. ⊎-elim (λ d. absurd (not-both d o)) (λ (z : dist u ≤ t). omega arith) (ahead (dist u) low-u a);
+              }
+
+              past : (v t : ℕ) → dist u < dist v → At v t → done v ≡ false → dist u < t
+              past v t l a o = ⊎-elim (λ (z : dist v ≤ t). omega arith) (λ (z : dist u < t). z) (nearer (dist u) low-u a o)
 
           -- u is settled, and each node takes the better of what it has and the way through u, and u as predecessor where that is strictly better
           pub turn : {done′ : ℕ → Bool} {dist′ bef′ : ℕ → ℕ}

@@ -5,4 +5,5 @@ pub mod Reach
 pub mod Made
 pub mod Nodes
 pub mod Best
+pub mod Entries
 pub mod Chosen

@@ -17,13 +17,14 @@ use Rattle.rules.specs.Limits.{day}
 use Rattle.rules.specs.Map.{Yard}
 use Rattle.rules.specs.Rows.{load}
 use Rattle.rules.specs.Plan.{Stay, stayAt, Permitted}
-use Rattle.rules.specs.Window.{Span, Window, Step, Enters, Earliest, Yields}
+use Rattle.rules.specs.Window.{Span, Window, Step, Enters, Earliest, Entries, Yields}
 use Rattle.rules.specs.Chosen.{LexLe, Goal, Prior, Back, first, prior, Chosen}
 use Rattle.lanes.specs.Yards.{YardRules, yard-rules}
 use Rattle.lanes.specs.Windows.{In, stay-in}
 use Rattle.lanes.specs.Reach.{begin, Enter, Soonest, next, next-low, next-step, next-top}
 use Rattle.lanes.specs.Nodes.{Windows, enter-node, first-soonest, soonest-first}
 use Rattle.lanes.specs.Best.{plan-last, enters-enter, enter-enters, earliest-soonest, soonest-earliest}
+use Rattle.lanes.specs.Entries.{known-entries, none-enters}
 use Rattle.label.specs.Label.{At, First, Best, Ahead, Backs, OnWay, self, back, Sought, at-lt, at-ge}
 use Rattle.flat.specs.Flat.{yardIn, Of, spanAt, Grouped}
 use Rattle.flat.specs.Laws.{yard-of}
@@ -77,9 +78,9 @@ module _
     W : Windows Y rows m win
     W = L .windows
 
-    -- a plan's first stay lies in a window of the start that may be entered at s
-    pub none-begins : {src : ℕ} → BeginsAt S E (at I start) (at I (start + 1)) s (at D start) src → src ≡ 1280 → (plan : List Stay) → Permitted Y rows start dest s plan → ⊥
-    none-begins B e plan P′ =
+    -- a plan's first stay lies in a window of the start that may be entered at s, wherever the plan leads
+    none-goes : {src : ℕ} → BeginsAt S E (at I start) (at I (start + 1)) s (at D start) src → src ≡ 1280 → (goal : ℕ) (plan : List Stay) → Permitted Y rows start goal s plan → ⊥
+    none-goes B e goal plan P′ =
         let h : 0 < length plan = P′ .run .some in
         let w = stay-in P′ 0 h in
         let q = P′ .first-place in
@@ -95,6 +96,14 @@ module _
         B .none e i (g .0) (g .1)
         (omega (arith, ap (λ (v : Span). v .from) (f .2), w .from))
         (omega (arith, ap (λ (v : Span). v .to) (f .2), w .to))
+
+    pub none-begins : {src : ℕ} → BeginsAt S E (at I start) (at I (start + 1)) s (at D start) src → src ≡ 1280 → (plan : List Stay) → Permitted Y rows start dest s plan → ⊥
+    none-begins B e = none-goes B e dest
+
+    -- then no window is entered, and every label is the mark
+    pub entries-unbegun : {src : ℕ} → BeginsAt S E (at I start) (at I (start + 1)) s (at D start) src → src ≡ 1280 → {label : ℕ → ℕ} → ((v : ℕ) → v < 1280 → label v ≡ 86401)
+        → Entries Y rows start s m win label 86400
+    entries-unbegun B e far = none-enters Y rows start s m win (λ i h. omega (arith, far i (omega (arith, L .few)))) (λ i t h n. none-goes B e ((win i) .place) (n .plan) (n .permitted))
 
     module _ {src : ℕ} (s-in : s ≤ 86400) (B : BeginsAt S E (at I start) (at I (start + 1)) s (at D start) src) (b : src < 1280) where
       pub src-in : src < m
@@ -124,6 +133,15 @@ module _
             let t : Enter Y rows start s (win i) (l .entry) = rw (f .2) (enters-enter Y rows start s (l .enters)) in
             let z = enter-node Y rows start s m win W (rules .long) src src-in src-enter src-place (l .entry) i (f .1) t in
             A .none e i (z .at) (eq-eqb (at P i) dest (ap (λ (v : Span). v .place) (f .2) ∙ l .at-dest)) (z .node)
+
+        -- "each with its earliest entry: the least second at which any permitted plan's beginning can enter it": all windows, up to the entry into
+        -- the destination's window, where the search stopped ..
+        pub entries-found : r < 1280 → Entries Y rows start s m win (at lab) (at lab r)
+        entries-found h = known-entries Y rows start s m win W rules booked src src-in src-enter src-place (A .known h)
+
+        -- .. or of the whole day, where it found none
+        pub entries-none : r ≡ 1280 → Entries Y rows start s m win (at lab) 86400
+        entries-none e = known-entries Y rows start s m win W rules booked src src-in src-enter src-place (A .known-all e)
 
         module _ (h : r < 1280) where
           backs : Backs m 86401 src s (nextBy Y rows P S E) (OnWay m 86401 src s (nextBy Y rows P S E) (befOf bef) r) (λ v. at lab v) (befOf bef)

@@ -7,27 +7,34 @@ use native.Mathlib.Omega.{arith}
 use lib.ListN.{length, getD, take}
 use lib.Seq.{getD-take, length-take-le, take-suc, take-all}
 use native.Mathlib.Numerals.{add-one}
+use Rattle.laws.specs.Order.{lt-or-ge}
 use Rattle.laws.specs.Lists.{at}
 use Rattle.rules.specs.declared.Row.{Row}
 use Rattle.rules.specs.Map.{Yard}
 use Rattle.rules.specs.Plan.{Stay, Permitted, runRows, stayRow, arrival}
+use Rattle.rules.specs.Window.{Enters, Earliest, Entries}
 use Rattle.rules.specs.Chosen.{Chosen}
 use Rattle.rules.specs.Answer.{written}
 use Rattle.wire.specs.Written.{PutAt, written-next}
 use Rattle.rules.specs.Rows.{load, rowAt, noRow}
-use Rattle.flat.specs.Flat.{yardIn}
+use Rattle.lanes.specs.Entries.{entry-or-mark}
+use Rattle.flat.specs.Flat.{yardIn, spanAt}
 use Rattle.settle.specs.Search.{Answer}
 use Rattle.search.specs.Offers.{BeginsAt, Row1}
 use Rattle.search.specs.Relax.{nextBy}
 use Rattle.search.specs.Lanes.{Lanes, atDest}
-use Rattle.search.specs.Trail.{Trailed, trailed-fits}
-use Rattle.planner.specs.Choice.{planOf, stayOf, OnDay, found-chosen, found-good}
+use Rattle.search.specs.Trail.{Trailed, trailed-fits, trailed-last}
+use Rattle.planner.specs.Choice.{planOf, stayOf, OnDay, found-chosen, found-good, entries-found}
 
--- r windows of path are the chosen plan; 0 where no plan is permitted
-pub record Routed (Y : Yard) (rows : List Row) (start dest s m : ℕ) (D P lab path : List ℕ) (r : ℕ) : Type 0 where
+-- r windows of path are the chosen plan; 0 where no plan is permitted. The labels of all windows are their earliest entries, up to the entry into
+-- the plan's last window; where no plan is permitted, of the whole day.
+pub record Routed (Y : Yard) (rows : List Row) (start dest s m : ℕ) (D P S E lab path : List ℕ) (r : ℕ) : Type 0 where
   pub few : r ≤ 1280
   pub none : r ≡ 0 → (plan : List Stay) → Permitted Y rows start dest s plan → ⊥
   pub chosen : 0 < r → Chosen Y rows start dest s (planOf D P lab (take r path))
+  pub entries : (i : ℕ) → suc i ≡ r → Entries Y rows start s m (spanAt P S E) (at lab) (at lab (at path i))
+  pub all-entries : r ≡ 0 → Entries Y rows start s m (spanAt P S E) (at lab) 86400
+  pub marked : (v : ℕ) → v < m → at lab v ≤ 86401
   pub on-day : OnDay m lab (take r path)
   pub long : length path ≡ 1280
 
@@ -37,12 +44,16 @@ begins-as {S} {E} {s = s} {d = d} {r = r} e f B = subst₂ (λ x y. BeginsAt S E
 pub row-as : {S E : List ℕ} {a b a′ b′ d : ℕ} → a ≡ a′ → b ≡ b′ → Row1 S E a b d → Row1 S E a′ b′ d
 row-as {S} {E} {d = d} e f R = subst₂ (λ x y. Row1 S E x y d) e f R
 
-pub routed-none : {Y : Yard} {rows : List Row} {start dest s m : ℕ} {D P lab path : List ℕ} → ((plan : List Stay) → Permitted Y rows start dest s plan → ⊥) → length path ≡ 1280
-    → Routed Y rows start dest s m D P lab path 0
-routed-none f l = record {
+pub routed-none : {Y : Yard} {rows : List Row} {start dest s m : ℕ} {D P S E lab path : List ℕ} → ((plan : List Stay) → Permitted Y rows start dest s plan → ⊥)
+    → Entries Y rows start s m (spanAt P S E) (at lab) 86400 → ((v : ℕ) → v < m → at lab v ≤ 86401) → length path ≡ 1280
+    → Routed Y rows start dest s m D P S E lab path 0
+routed-none f t k l = record {
   few = omega arith;
   none = λ _. f;
   chosen = λ h. absurd (omega arith);
+  entries = λ i e. absurd (omega arith);
+  all-entries = λ _. t;
+  marked = k;
   on-day = record { window = λ i h. absurd (omega arith); label = λ i h. absurd (omega arith) };
   long = l;
 }
@@ -51,14 +62,29 @@ pub routed-found : {C D F T H N : List ℕ} {n k : ℕ} {rows : List Row} {c : �
     → ((p t : ℕ) → p < yardIn C D n F T k .places → load rows p t ≤ yardIn C D n F T k .cap p)
     → (start dest s : ℕ) → start < n → dest < n → {src : ℕ} → s ≤ 86400 → BeginsAt S E (at I start) (at I (start + 1)) s (at D start) src → src < 1280
     → {lab bef : List ℕ} {g : ℕ} → Answer m (nextBy (yardIn C D n F T k) rows P S E) (atDest P dest) src s lab bef g → g < 1280
-    → {path : List ℕ} {r : ℕ} → Trailed lab bef g r path → Routed (yardIn C D n F T k) rows start dest s m D P lab path r
-routed-found L booked start dest s a b sh B h A gh T = record {
-  few = trailed-fits gh T;
-  none = λ e. absurd (omega (arith, T .some));
-  chosen = λ _. found-chosen L booked start dest s a b sh B h A gh (T .trail);
-  on-day = found-good L booked start dest s a b sh B h A gh (T .trail);
-  long = T .long;
+    → {path : List ℕ} {r : ℕ} → Trailed lab bef g r path → Routed (yardIn C D n F T k) rows start dest s m D P S E lab path r
+routed-found {C} {D} {F} {T} {n = n} {k = k} {rows = rows} {P = P} {S = S} {E = E} {m = m} L booked start dest s a b sh B h {lab = lab} A gh T′ = record {
+  few = trailed-fits gh T′;
+  none = λ e. absurd (omega (arith, T′ .some));
+  chosen = λ _. found-chosen L booked start dest s a b sh B h A gh (T′ .trail);
+  entries = λ i e. subst (λ w. Entries (yardIn C D n F T k) rows start s m (spanAt P S E) (at lab) (at lab w)) (sym (trailed-last (trailed-fits gh T′) T′ i e)) (entries-found L booked start dest s a b sh B h A gh);
+  all-entries = λ e. absurd (omega (arith, T′ .some));
+  marked = λ v h. A .marked v;
+  on-day = found-good L booked start dest s a b sh B h A gh (T′ .trail);
+  long = T′ .long;
 }
+
+-- where no plan is permitted, each window's label is "the least second at which any permitted plan's beginning can enter it", or it is the mark
+-- and none can enter it
+pub every-entry : {Y : Yard} {rows : List Row} {start dest s m : ℕ} {D P S E lab path : List ℕ} {r : ℕ} → Routed Y rows start dest s m D P S E lab path r → r ≡ 0
+    → (i : ℕ) → i < m → Earliest Y rows start s (spanAt P S E i) (at lab i) ⊎ ((at lab i ≡ 86401) × ((t : ℕ) → Enters Y rows start s (spanAt P S E i) t → ⊥))
+every-entry {Y} {rows} {start} {dest} {s} {m} {D} {P} {S} {E} {lab} R e = entry-or-mark Y rows start s m (spanAt P S E) {label = at lab} (R .all-entries e) (R .marked)
+
+-- and where there is one, each window that can be entered by the plan's last entry has its earliest entry
+pub sooner-entry : {Y : Yard} {rows : List Row} {start dest s m : ℕ} {D P S E lab path : List ℕ} {r : ℕ} → Routed Y rows start dest s m D P S E lab path r → (k : ℕ) → suc k ≡ r
+    → (i t : ℕ) → i < m → Enters Y rows start s (spanAt P S E i) t → t ≤ at lab (at path k) → Earliest Y rows start s (spanAt P S E i) (at lab i)
+sooner-entry {lab = lab} {path = path} R k e i t h n l =
+    ⊎-elim (λ (c : at lab (at path k) < at lab i). absurd (omega (arith, R .entries k e .after i t h c n))) (λ (c : at lab i ≤ at lab (at path k)). R .entries k e .earliest i h c) (lt-or-ge (at lab (at path k)) (at lab i))
 
 -- ---- the rows of a path
 

@@ -64,7 +64,8 @@ pub fn step_at(
     }
 }
 
-// The chosen plan from `origin` to `dest` at s as windows of path, in travel order: how many, 0 where no plan is permitted.
+// The chosen plan from `origin` to `dest` at s as windows of path, in travel order: how many, 0 where no plan is permitted; and each window's
+// earliest entry as its label, up to the plan's last entry, or all of them where no plan is permitted.
 pub fn route(
     places: usize,
     links: usize,
@@ -94,7 +95,7 @@ pub fn route(
     requires { ⌜ (origin < places) × (dest < places) × (s ≤ 86400) ⌝ }
     requires { ⌜ ((v : ℕ) → v < 1280 → at (now label) v ≡ 86401) ⌝ }
     requires { ⌜ (length (now label) ≡ 1280) × (length (now path) ≡ 1280) ⌝ }
-    ensures { λ r. ⌜ Routed (yardIn (now (cap .entry)) (now (dur .entry)) places (now (from .entry)) (now (to .entry)) links) (rowsIn (now (key .entry)) (now (exit .entry)) (now (next .entry)) n) origin dest s windows (now (dur .entry)) (now (place .entry)) (now (label .exit)) (now (path .exit)) r ⌝ }
+    ensures { λ r. ⌜ Routed (yardIn (now (cap .entry)) (now (dur .entry)) places (now (from .entry)) (now (to .entry)) links) (rowsIn (now (key .entry)) (now (exit .entry)) (now (next .entry)) n) origin dest s windows (now (dur .entry)) (now (place .entry)) (now (start .entry)) (now (end .entry)) (now (label .exit)) (now (path .exit)) r ⌝ }
 {
     let a = broad(first[origin]);
     let b = broad(first[origin + 1]);

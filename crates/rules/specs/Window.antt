@@ -44,6 +44,13 @@ pub record Earliest (Y : Yard) (rows : List Row) (start s : ℕ) (w : Span) (e :
   pub enters : Enters Y rows start s w e
   pub least : (t : ℕ) → Enters Y rows start s w t → e ≤ t
 
+-- All windows, "each with its earliest entry: the least second at which any permitted plan's beginning can enter it", up to second b: a window
+-- whose label is at most b has it as its earliest entry, and a window of a later label is entered only after b. With b the day's last second
+-- these are all earliest entries, and a window whose label is the mark 86,401 is never entered.
+pub record Entries (Y : Yard) (rows : List Row) (start s n : ℕ) (win : ℕ → Span) (label : ℕ → ℕ) (b : ℕ) : Type 0 where
+  pub earliest : (i : ℕ) → i < n → label i ≤ b → Earliest Y rows start s (win i) (label i)
+  pub after : (i t : ℕ) → i < n → b < label i → Enters Y rows start s (win i) t → b < t
+
 -- a wagon that entered window w at e may go on into window v at u:
 -- "out of those that both windows and the duration allow", "not barred by an opposing crossing"
 pub record Step (Y : Yard) (rows : List Row) (w v : Span) (e u : ℕ) : Type 0 where

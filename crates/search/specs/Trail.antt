@@ -7,7 +7,7 @@ use mathlib.Core.List.{List, [], _∷_, _++_}
 use native.Mathlib.Omega.{arith}
 use native.Mathlib.Numerals.{add-one}
 use lib.ListN.{length, take, set, length-set}
-use lib.Seq.{take-suc-set}
+use lib.Seq.{take-suc-set, getD-take, length-take-le}
 use lib.Dec.{ltb}
 use borrow.Author.Tests.{lt-ltb, le-ltb}
 use Rattle.laws.specs.Order.{lt-or-ge, eq-or-ne}
@@ -22,6 +22,15 @@ pub data Trail (bef : List ℕ) : ℕ → List ℕ → List ℕ → Type 0 where
 pub trail-snoc : {bef : List ℕ} {w : ℕ} {after path : List ℕ} (x : List ℕ) → Trail bef w after path → Trail bef w (after ++ x) (path ++ x)
 trail-snoc x (root e) = root e
 trail-snoc x (back h t) = back h (trail-snoc x t)
+
+-- the trail to w ends in w and what is behind it: from its place k on
+pub trail-ends : {bef : List ℕ} {w : ℕ} {after path : List ℕ} → Trail bef w after path
+    → (k : ℕ) × (k + suc (length after) ≡ length path) × ((j : ℕ) → at path (k + j) ≡ at (w ∷ after) j)
+trail-ends {w = w} {after = after} (root e) = (0, omega arith, λ j. ap (at (w ∷ after)) (let z : 0 + j ≡ j = omega arith in z))
+trail-ends {path = path} (back h t) =
+    let i = trail-ends t in
+    let q = i .1 in
+    (i .0 + 1, omega arith, λ j. ap (at path) (let z : i .0 + 1 + j ≡ i .0 + suc j = omega arith in z) ∙ i .2 (suc j))
 
 -- how many of the first n labels are below x
 unfoldable pub rank : List ℕ → ℕ → ℕ → ℕ
@@ -81,6 +90,15 @@ pub record Trailed (lab bef : List ℕ) (w r : ℕ) (path : List ℕ) : Type 0 w
   pub few : r ≤ rank lab 1280 (at lab w) + 1
   pub trail : Trail bef w [] (take r path)
   pub long : length path ≡ 1280
+
+-- the last of them is w
+pub trailed-last : {lab bef : List ℕ} {w r : ℕ} {path : List ℕ} → r ≤ 1280 → Trailed lab bef w r path → (i : ℕ) → suc i ≡ r → at path i ≡ w
+trailed-last {w = w} {r = r} {path = path} f T i e =
+    let x = trail-ends (T .trail) in
+    let q = x .1 in
+    let l : length (take r path) ≡ r = length-take-le r path (omega (arith, T .long)) in
+    let z : i ≡ x .0 + 0 = omega arith in
+    sym (getD-take r path i 0 (omega arith)) ∙ (ap (at (take r path)) z ∙ x .2 0)
 
 pub trailed-root : (lab : List ℕ) {bef : List ℕ} {w : ℕ} (path : List ℕ) → at bef w ≡ 0 → length path ≡ 1280 → Trailed lab bef w 1 (set path 0 w)
 trailed-root lab {bef} {w} path e l = record {

@@ -13,7 +13,7 @@ use borrow.Author.Tests.{ltb-true, ltb-false, lt-ltb, le-ltb}
 use borrow.Author.Count.{below-more}
 use Rattle.laws.specs.Order.{lt-or-ge, eq-or-ne, strong}
 use Rattle.laws.specs.Tests.{true-or-false, not-both}
-use Rattle.label.specs.Label.{Ahead, Pick, At, Inv, Backs, OnWay, Sought, Trace, begin, turn, stop, backs-stop, not-sought, way, trace, at-ge, at-lt}
+use Rattle.label.specs.Label.{Ahead, Pick, At, Inv, Backs, OnWay, Sought, Known, Trace, begin, turn, stop, backs-stop, known-stop, known-end, not-sought, way, trace, at-ge, at-lt}
 use Rattle.settle.specs.Blocks.{low, Blocks, Picked, FirstLeast, Offered, low-ge, low-top, blocks-lower}
 
 abbrev pub top : ℕ
@@ -49,7 +49,8 @@ pub data Long (bef : List ℕ) : ℕ → ℕ → Type 0 where
   one : (v : ℕ) → getD bef v 0 ≡ 0 → Long bef v 1
   more : (v k : ℕ) → 0 < getD bef v 0 → Long bef (befOf bef v) k → Long bef v (k + 1)
 
--- what the search has found: the first goal and its way back, or that there is none
+-- what the search has found: the first goal and its way back, or that there is none; and what the labels of all nodes are: each entry up to
+-- the goal's, where the search stopped, or, where there is no goal, each entry of the day
 pub record Answer (n : ℕ) (nx : ℕ → ℕ → ℕ → ℕ) (goal : ℕ → Bool) (src s : ℕ) (lab bef : List ℕ) (r : ℕ) : Type 0 where
   pub within : r ≤ 1280
   pub none : r ≡ 1280 → (v t : ℕ) → goal v ≡ true → At n top src s nx v t → ⊥
@@ -58,6 +59,9 @@ pub record Answer (n : ℕ) (nx : ℕ → ℕ → ℕ → ℕ) (goal : ℕ → B
   pub rooted : r < 1280 → Rooted lab bef r
   pub begun : r < 1280 → getD bef src 0 ≡ 0
   pub tied : r < 1280 → (v : ℕ) → v < n → getD lab v 0 < top → (v ≡ src → ⊥) → 0 < getD bef v 0
+  pub known : r < 1280 → Known n top src s nx (distOf lab) (distOf lab r)
+  pub known-all : r ≡ 1280 → Known n top src s nx (distOf lab) 86400
+  pub marked : (v : ℕ) → distOf lab v ≤ top
 
 pub record Going (n : ℕ) (nx : ℕ → ℕ → ℕ → ℕ) (goal : ℕ → Bool) (src s : ℕ) (lab op le bef : List ℕ) : Type 0 where
   pub inv : Inv n top src s nx (doneOf lab op) (distOf lab) (befOf bef)
@@ -267,13 +271,19 @@ module _ {n : ℕ} {nx : ℕ → ℕ → ℕ → ℕ} {goal : ℕ → Bool} {src
       pub going-none : u ≡ 1280 → Answer n nx goal src s lab bef 1280
       going-none e = record {
         within = omega arith;
-        none = λ _. not-sought n top src s nx src-in s-in mono later (G .inv) (λ v h o. omega (arith, P .none e v (omega arith), is-open v o)) (G .goals);
+        none = λ _. not-sought n top src s nx src-in s-in mono later (G .inv) all-open (G .goals);
         sought = λ h. absurd (omega arith);
         backs = λ h. absurd (omega arith);
         rooted = λ h. absurd (omega arith);
         begun = λ h. absurd (omega arith);
         tied = λ h. absurd (omega arith);
+        known = λ h. absurd (omega arith);
+        known-all = λ _. known-end n top src s nx src-in s-in mono later (G .inv) all-open 86400 refl;
+        marked = G .below;
       }
+        where
+          all-open : (v : ℕ) → v < n → doneOf lab op v ≡ false → top ≤ distOf lab v
+          all-open v h o = omega (arith, P .none e v (omega arith), is-open v o)
 
       -- what is picked is a node
       pub in-n : u < 1280 → u < n
@@ -324,6 +334,9 @@ module _ {n : ℕ} {nx : ℕ → ℕ → ℕ → ℕ} {goal : ℕ → Bool} {src
               rooted = λ _. rooted-of B u k (inr refl);
               begun = λ _. G .begun;
               tied = λ _. G .tied;
+              known = λ _. known-stop n top src s nx src-in s-in mono later (G .inv) pick-of low-u;
+              known-all = λ e. absurd (omega (arith, k₁));
+              marked = G .below;
             }
 
         node : {v : ℕ} → v < n → In 0 n v

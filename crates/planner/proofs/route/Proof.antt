@@ -1,13 +1,13 @@
 -- `planner::route` meets its contract: without a window to begin in, or with no window of the destination reached, no plan is permitted; else the trail
 -- to the window that the search found is the chosen plan.
 use Prim.Native.Nat.{_+_, _-_}
-use mathlib.Core.Path.{refl, sym}
+use mathlib.Core.Path.{_≡_, refl, sym}
 use native.Mathlib.Omega.{arith}
 use borrow.Author.Needs.{needs}
 use lib.ListN.{getD-replicate}
 use Rattle.search.specs.Lanes.{lanes-ground}
 use Rattle.flat.specs.Links.{group-end}
-use Rattle.planner.specs.Choice.{none-begins, none-found, src-in}
+use Rattle.planner.specs.Choice.{none-begins, none-found, entries-unbegun, entries-none, src-in}
 use Rattle.planner.specs.Route.{begins-as, row-as, routed-none, routed-found}
 use Rattle.planner.proofs.route.Statement.{statement}
 use Rattle.planner.proofs.route.Tie as tie
@@ -54,7 +54,11 @@ returns c =
     let s = c .before .before .before .before .before .before .before in
     let P = s .pre in
     let X = begins-as (c .before .before .before .before .before .broad .ensures .0) (c .before .before .before .broad2 .ensures .0) (c .before .begin-at .ensures) in
-    routed-none (none-begins (P .0) (P .1 .0) (s .args .origin) (s .args .dest) (s .args .s) (P .1 .1 .0 .0) (P .1 .1 .0 .1) X (omega (arith, X .within, c .if1 .taken))) (P .1 .1 .1 .1 .1)
+    let e : c .before .begin-at .result ≡ 1280 = omega (arith, X .within, c .if1 .taken) in
+    let far = P .1 .1 .1 .0 in
+    routed-none (none-begins (P .0) (P .1 .0) (s .args .origin) (s .args .dest) (s .args .s) (P .1 .1 .0 .0) (P .1 .1 .0 .1) X e)
+    (entries-unbegun (P .0) (P .1 .0) (s .args .origin) (s .args .dest) (s .args .s) (P .1 .1 .0 .0) (P .1 .1 .0 .1) X e far)
+    (λ v h. omega (arith, far v (omega (arith, P .0 .few)))) (P .1 .1 .1 .1 .1)
 
 search-requires : tie.Need-search-requires
 search-requires c κs =
@@ -70,7 +74,11 @@ returns-2 c =
     let P = s .pre in
     let X = begins-as (c .before .before .before .before .before .before .before .before .before .broad .ensures .0) (c .before .before .before .before .before .before .before .broad2 .ensures .0) (c .before .before .before .before .before .begin-at .ensures) in
     let A = c .before .search .ensures in
-    routed-none (none-found (P .0) (P .1 .0) (s .args .origin) (s .args .dest) (s .args .s) (P .1 .1 .0 .0) (P .1 .1 .0 .1) (P .1 .1 .0 .2) X (c .before .before .before .before .if1 .left) A (omega (arith, A .within, c .if2 .taken))) (P .1 .1 .1 .1 .1)
+    let e : c .before .search .result ≡ 1280 = omega (arith, A .within, c .if2 .taken) in
+    let b = c .before .before .before .before .if1 .left in
+    routed-none (none-found (P .0) (P .1 .0) (s .args .origin) (s .args .dest) (s .args .s) (P .1 .1 .0 .0) (P .1 .1 .0 .1) (P .1 .1 .0 .2) X b A e)
+    (entries-none (P .0) (P .1 .0) (s .args .origin) (s .args .dest) (s .args .s) (P .1 .1 .0 .0) (P .1 .1 .0 .1) (P .1 .1 .0 .2) X b A e)
+    (λ v h. A .marked v) (P .1 .1 .1 .1 .1)
 
 trail-requires : tie.Need-trail-requires
 trail-requires c κs =
