@@ -13,9 +13,9 @@ use Rattle.rules.specs.declared.State.{State}
 use Rattle.rules.specs.Answer.{Unless}
 use Rattle.rules.specs.Portal.{byteAt, num2, num3}
 use Rattle.rules.specs.Frames.{hexOf, lineOf, lengthBy, frameLength, Frame, Said, PlaceFrame, LinkFrame, PlanFrame, BookFrame, CancelFrame, PageFrame, FrameSays, LineSays}
+use Rattle.unique.specs.Hex.{AreBytes, hex-injective}
 use Rattle.frames.specs.declared.Line.{Line}
 use Rattle.frames.specs.declared.Told.{Told}
-use Rattle.frames.specs.Hex.{AreBytes, hex-injective}
 use Rattle.frames.specs.Lines.{LineIs, Decoded}
 use Rattle.frames.specs.Told.{Spoken, Silent}
 

@@ -20,7 +20,7 @@ ghost use lib.ListN.{length, take, drop};
 ghost use Rattle.rules.specs.Rows.{bit};
 ghost use Rattle.rules.specs.Answer.{number, plannedNumber, plannedArrival, plannedCount, bookedNumber, bookedTicket, bookedArrival, bookedCount, cancelledNumber, cancelledCount, pagedNumber, pagedCount, pagedMore};
 ghost use Rattle.rules.specs.Frames.{digit, hexOf, lineOf, rowLines, after00, bytes2, bytes3, Said, PlaceFrame, LinkFrame, PlanFrame, BookFrame, CancelFrame, PageFrame, begins};
-ghost use Rattle.frames.specs.Hex.{Value};
+ghost use Rattle.unique.specs.Hex.{Value};
 ghost use Rattle.frames.specs.Lines.{LineIs, Decoded, FormIs};
 ghost use Rattle.frames.specs.Heads.{HeadIs};
 ghost use Rattle.frames.specs.Told.{Answers, Spoken};
