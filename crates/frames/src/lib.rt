@@ -19,7 +19,7 @@ ghost use mathlib.Core.List.{List, [], _∷_, _++_};
 ghost use lib.ListN.{length, take, drop};
 ghost use Rattle.rules.specs.Rows.{bit};
 ghost use Rattle.rules.specs.Answer.{number, plannedNumber, plannedArrival, plannedCount, bookedNumber, bookedTicket, bookedArrival, bookedCount, cancelledNumber, cancelledCount, pagedNumber, pagedCount, pagedMore};
-ghost use Rattle.rules.specs.Frames.{digit, hexOf, lineOf, rowLines, after00, bytes2, bytes3, Said, PlaceFrame, LinkFrame, PlanFrame, BookFrame, CancelFrame, PageFrame, begins};
+ghost use Rattle.rules.specs.Frames.{digit, hexOf, lineOf, rowLines, after00, bytes2, bytes3, closedWith, Said, PlaceFrame, LinkFrame, PlanFrame, BookFrame, CancelFrame, PageFrame, begins};
 ghost use Rattle.unique.specs.Hex.{Value};
 ghost use Rattle.frames.specs.Lines.{LineIs, Decoded, FormIs};
 ghost use Rattle.frames.specs.Heads.{HeadIs};
@@ -488,6 +488,18 @@ fn link_frame(s: State, b: &[u8; 9], out: &mut [u8]) -> Told
     }
 }
 
+// "01 or 02 after any well-shaped frame of another kind" is refused: such a frame closes the map.
+fn closed_with(s: State, book: Book) -> State
+    ensures { λ r. ⌜ r ≡ closedWith s book ⌝ }
+{
+    let m = s.map;
+    State {
+        map: m,
+        book: book,
+        closed: true,
+    }
+}
+
 fn wide(x: u8) -> u32
     ensures { λ r. ⌜ r ≡ x ⌝ }
 {
@@ -509,12 +521,9 @@ fn plan_frame(s: State, b: &[u8; 9], out: &mut [u8]) -> Told
     let h = plan_head(p);
     let rows = plan_rows(p);
     let len = put_answer(h, &list, rows, out);
+    let next = closed_with(s, book);
     Told {
-        state: State {
-            map: m,
-            book: book,
-            closed: true,
-        },
+        state: next,
         len: len,
     }
 }
@@ -534,12 +543,9 @@ fn book_frame(s: State, b: &[u8; 9], out: &mut [u8]) -> Told
     let answer = r.answer;
     let h = book_head(answer);
     let len = put_answer(h, b, 0, out);
+    let next = closed_with(s, after);
     Told {
-        state: State {
-            map: m,
-            book: after,
-            closed: true,
-        },
+        state: next,
         len: len,
     }
 }
@@ -557,12 +563,9 @@ fn cancel_frame(s: State, b: &[u8; 9], out: &mut [u8]) -> Told
     let answer = r.answer;
     let h = cancel_head(answer);
     let len = put_answer(h, b, 0, out);
+    let next = closed_with(s, after);
     Told {
-        state: State {
-            map: m,
-            book: after,
-            closed: true,
-        },
+        state: next,
         len: len,
     }
 }
@@ -588,12 +591,9 @@ fn page_frame(s: State, b: &[u8; 9], out: &mut [u8]) -> Told
     let h = page_head(p);
     let rows = page_rows(p);
     let len = put_answer(h, &list, rows, out);
+    let next = closed_with(s, book);
     Told {
-        state: State {
-            map: m,
-            book: book,
-            closed: true,
-        },
+        state: next,
         len: len,
     }
 }
