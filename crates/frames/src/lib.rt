@@ -691,9 +691,9 @@ fn step(d: Desk, buf: &[u8], from: usize, at: usize, out: &mut [u8]) -> Intake
     let s = d.state;
     let begun = d.line;
     let c = take_line(begun, buf, from);
-    let line = c.line;
+    let taken = c.line;
     if c.ended {
-        let t = reply(s, line, &mut out[at..]);
+        let t = reply(s, taken, &mut out[at..]);
         let after = t.state;
         let next = Line::empty();
         return Intake {
@@ -708,7 +708,7 @@ fn step(d: Desk, buf: &[u8], from: usize, at: usize, out: &mut [u8]) -> Intake
     Intake {
         desk: Desk {
             state: s,
-            line: line,
+            line: taken,
         },
         upto: c.upto,
         len: at,
