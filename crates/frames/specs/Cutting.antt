@@ -255,8 +255,9 @@ pub record Feeding (d : Desk) (buf : List ℕ) (from : ℕ) (was : List ℕ) (e 
   pub fits : at ≤ length was
   pub after : from ≤ i
   pub within : from ≤ length buf → i ≤ length buf
-  -- before the first step nothing is said
-  pub still : i ≡ from → at ≡ 0
+  -- before the first step nothing is said, and a step needs bytes and room
+  pub still : i ≡ from → (e ≡ d) × (at ≡ 0)
+  pub went : from < i → (30000 ≤ length was) × (from < length buf)
 
 pub feeding-start : (d : Desk) (buf : List ℕ) (from : ℕ) (was : List ℕ) → Feeding d buf from was d from 0 was
 feeding-start d buf from was = record {
@@ -267,7 +268,8 @@ feeding-start d buf from was = record {
   fits = omega arith;
   after = omega arith;
   within = λ h. h;
-  still = λ _. refl;
+  still = λ _. (refl, refl);
+  went = λ h. absurd (omega arith);
 }
 
 pub feeding-next : {d e : Desk} {buf was mid out : List ℕ} {from i at : ℕ} {r : Intake} → Feeding d buf from was e i at mid → i < length buf → at + 30000 ≤ length was
@@ -287,9 +289,10 @@ feeding-next {d} {e} {buf} {was} {mid} {out} {from} {i} {at} {r} F h room S =
       after = omega (arith, F .after);
       within = λ _. S .within;
       still = λ g. absurd (omega (arith, F .after));
+      went = λ _. (omega arith, omega (arith, F .after));
     }
 
--- how far the bytes are taken, and what is then in the list; where the index is behind their end, or the list has no room for an answer, nothing is taken
+-- how far the bytes are taken, and what is then in the list
 pub record FedIs (d : Desk) (buf : List ℕ) (from : ℕ) (was out : List ℕ) (r : Intake) : Type 0 where
   pub feeds : Feeds d (slice from (r .upto) buf) (r .desk) (take (r .len) out)
   pub kept : drop (r .len) out ≡ drop (r .len) was
@@ -299,7 +302,9 @@ pub record FedIs (d : Desk) (buf : List ℕ) (from : ℕ) (was out : List ℕ) (
   pub within : from ≤ length buf → r .upto ≤ length buf
   -- it stops at the end of the bytes, or where there is no room for one more answer
   pub stops : r .upto < length buf → length was < r .len + 30000
+  -- it moves where there are bytes and room for an answer, and else takes nothing
   pub moves : 30000 ≤ length was → from < length buf → from < r .upto
+  pub stays : (30000 ≤ length was → from < length buf → ⊥) → (r .desk ≡ d) × (r .upto ≡ from) × (r .len ≡ 0)
 
 pub fed-is : {d e : Desk} {buf was out : List ℕ} {from i at : ℕ} → Feeding d buf from was e i at out → (i < length buf → length was < at + 30000)
     → FedIs d buf from was out (record { desk = e; upto = i; len = at })
@@ -313,7 +318,11 @@ fed-is {d} {e} {buf} {was} {out} {from} {i} {at} F stop = record {
   stops = stop;
   moves = λ room h. ⊎-elim
       (λ (a : from < i). a)
-      (λ (a : i ≤ from). let z : i ≡ from = omega (arith, F .after) in let y = F .still z in let x = stop (omega arith) in absurd (omega arith))
+      (λ (a : i ≤ from). let z : i ≡ from = omega (arith, F .after) in let y = F .still z .1 in let x = stop (omega arith) in absurd (omega arith))
+      (lt-or-ge from i);
+  stays = λ f. ⊎-elim
+      (λ (a : from < i). absurd (f (F .went a .0) (F .went a .1)))
+      (λ (a : i ≤ from). let z : i ≡ from = omega (arith, F .after) in (F .still z .0, z, F .still z .1))
       (lt-or-ge from i);
 }
 
