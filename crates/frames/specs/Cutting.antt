@@ -14,6 +14,7 @@ use borrow.Rule.Slice.PartMut.{putMid}
 use borrow.Author.Tests.{eq-eqb, ne-eqb}
 use Rattle.laws.specs.Order.{lt-or-ge}
 use Rattle.rules.specs.declared.State.{State}
+use Rattle.rules.specs.Answer.{Unless}
 use Rattle.rules.specs.Frames.{LineSays, LinesSay, wholeLines, begunLine, lastLine, allLines, begins}
 use Rattle.rules.specs.Frames.LinesSay.{none, more}
 use Rattle.frames.specs.declared.Line.{Line}
@@ -23,7 +24,7 @@ use Rattle.frames.specs.declared.Intake.{Intake}
 use Rattle.frames.specs.declared.Told.{Told}
 use Rattle.frames.specs.Lines.{LineIs}
 use Rattle.frames.specs.Put.{Put, put-none, put-more, put-front, put-rest}
-use Rattle.frames.specs.Told.{Spoken, spoken-so}
+use Rattle.frames.specs.Told.{Spoken, Silent, spoken-so}
 use Rattle.frames.specs.Saying.{Tells}
 
 -- ---- lines, cut one run after another
@@ -253,20 +254,22 @@ pub record Feeding (d : Desk) (buf : List ℕ) (from : ℕ) (was : List ℕ) (e 
   pub count : at ≡ length said
   pub fits : at ≤ length was
   pub after : from ≤ i
-  pub within : i ≤ length buf
-  -- before the first step nothing is said
-  pub still : i ≡ from → at ≡ 0
+  pub within : from ≤ length buf → i ≤ length buf
+  -- before the first step nothing is said, and a step needs bytes and room
+  pub still : i ≡ from → (e ≡ d) × (at ≡ 0)
+  pub went : from < i → (30000 ≤ length was) × (from < length buf)
 
-pub feeding-start : (d : Desk) (buf : List ℕ) (from : ℕ) (was : List ℕ) → from ≤ length buf → Feeding d buf from was d from 0 was
-feeding-start d buf from was h = record {
+pub feeding-start : (d : Desk) (buf : List ℕ) (from : ℕ) (was : List ℕ) → Feeding d buf from was d from 0 was
+feeding-start d buf from was = record {
   said = [];
   feeds = rw (slice-empty from buf) (feeds-none d);
   put = put-none was 0;
   count = refl;
   fits = omega arith;
   after = omega arith;
-  within = h;
-  still = λ _. refl;
+  within = λ h. h;
+  still = λ _. (refl, refl);
+  went = λ h. absurd (omega arith);
 }
 
 pub feeding-next : {d e : Desk} {buf was mid out : List ℕ} {from i at : ℕ} {r : Intake} → Feeding d buf from was e i at mid → i < length buf → at + 30000 ≤ length was
@@ -284,8 +287,9 @@ feeding-next {d} {e} {buf} {was} {mid} {out} {from} {i} {at} {r} F h room S =
       count = omega (arith, length-append (F .said) (S .said));
       fits = omega (arith, S .short);
       after = omega (arith, F .after);
-      within = S .within;
+      within = λ _. S .within;
       still = λ g. absurd (omega (arith, F .after));
+      went = λ _. (omega arith, omega (arith, F .after));
     }
 
 -- how far the bytes are taken, and what is then in the list
@@ -295,14 +299,16 @@ pub record FedIs (d : Desk) (buf : List ℕ) (from : ℕ) (was out : List ℕ) (
   pub long : length out ≡ length was
   pub fits : r .len ≤ length was
   pub after : from ≤ r .upto
-  pub within : r .upto ≤ length buf
+  pub within : from ≤ length buf → r .upto ≤ length buf
   -- it stops at the end of the bytes, or where there is no room for one more answer
   pub stops : r .upto < length buf → length was < r .len + 30000
-  pub moves : from < length buf → from < r .upto
+  -- it moves where there are bytes and room for an answer, and else takes nothing
+  pub moves : 30000 ≤ length was → from < length buf → from < r .upto
+  pub stays : (30000 ≤ length was → from < length buf → ⊥) → (r .desk ≡ d) × (r .upto ≡ from) × (r .len ≡ 0)
 
-pub fed-is : {d e : Desk} {buf was out : List ℕ} {from i at : ℕ} → Feeding d buf from was e i at out → 30000 ≤ length was → (i < length buf → length was < at + 30000)
+pub fed-is : {d e : Desk} {buf was out : List ℕ} {from i at : ℕ} → Feeding d buf from was e i at out → (i < length buf → length was < at + 30000)
     → FedIs d buf from was out (record { desk = e; upto = i; len = at })
-fed-is {d} {e} {buf} {was} {out} {from} {i} {at} F room stop = record {
+fed-is {d} {e} {buf} {was} {out} {from} {i} {at} F stop = record {
   feeds = rw (F .count, put-front (F .put)) (F .feeds);
   kept = rw (F .count) (put-rest (F .put));
   long = F .put .long;
@@ -310,9 +316,13 @@ fed-is {d} {e} {buf} {was} {out} {from} {i} {at} F room stop = record {
   after = F .after;
   within = F .within;
   stops = stop;
-  moves = λ h. ⊎-elim
+  moves = λ room h. ⊎-elim
       (λ (a : from < i). a)
-      (λ (a : i ≤ from). let z : i ≡ from = omega (arith, F .after) in let y = F .still z in let x = stop (omega arith) in absurd (omega arith))
+      (λ (a : i ≤ from). let z : i ≡ from = omega (arith, F .after) in let y = F .still z .1 in let x = stop (omega arith) in absurd (omega arith))
+      (lt-or-ge from i);
+  stays = λ f. ⊎-elim
+      (λ (a : from < i). absurd (f (F .went a .0) (F .went a .1)))
+      (λ (a : i ≤ from). let z : i ≡ from = omega (arith, F .after) in (F .still z .0, z, F .still z .1))
       (lt-or-ge from i);
 }
 
@@ -320,6 +330,9 @@ fed-is {d} {e} {buf} {was} {out} {from} {i} {at} F room stop = record {
 
 abbrev pub Ends : Desk → State → List ℕ → Type 0
 Ends d s said = (line : List ℕ) → LineIs line (d .line) → LinesSay (d .state) (lastLine line) s said
+
+abbrev pub EndedIs : Desk → List ℕ → List ℕ → Told → Type 0
+EndedIs d was out r = Unless (30000 ≤ length was) (Silent (d .state) was out r) (Spoken (Ends d) was out r)
 
 pub nothing-begun : (d : Desk) (was : List ℕ) → d .line .len ≡ 0 → Spoken (Ends d) was was (record { state = d .state; len = 0 })
 nothing-begun d was e = record {

@@ -1,4 +1,3 @@
-pub mod Hex
 pub mod Put
 pub mod Lines
 pub mod Heads
@@ -7,3 +6,4 @@ pub mod Saying
 pub mod Frames
 pub mod Answering
 pub mod Cutting
+pub mod Unique

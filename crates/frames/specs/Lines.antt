@@ -8,16 +8,16 @@ use native.Mathlib.Omega.{arith}
 use native.Mathlib.Numerals.{add-one}
 use lib.ListN.{length, getD, take, set, length-append, length-set}
 use lib.Seq.{take-suc, take-suc-set, getD-set-same, getD-set-other, getD-take, length-take-le}
-use borrow.Author.Tests.{ne-eqb}
 use Rattle.laws.specs.Order.{eq-or-ne}
 use Rattle.laws.specs.Lists.{zeros}
 use Rattle.rules.specs.Portal.{byteAt}
 use Rattle.rules.specs.Frames.{digit, hexOf, frameLength}
+use Rattle.unique.specs.Hex.{Value, AreBytes, hex-length, hex-append, hex-at-high, hex-at-low}
+use Rattle.unique.specs.Line.{no-kind}
 use Rattle.frames.specs.declared.Line.{Line}
 use Rattle.frames.specs.declared.Decoder.{Decoder}
 use Rattle.frames.specs.declared.Decoder.the-variants.{Place, Link, Plan, Book, Cancel, Page, Nothing}
 use Rattle.frames.specs.declared.Form.{Form}
-use Rattle.frames.specs.Hex.{Value, AreBytes, hex-length, hex-append, hex-at-high, hex-at-low}
 
 -- what the buffer stands for: a line of at most 18 bytes, or any longer line
 pub record LineIs (line : List ℕ) (l : Line) : Type 0 where
@@ -172,8 +172,4 @@ pub form-known : (d : Decoder) {n : ℕ} → n ≡ frameLength (kindOf d) → Fo
 form-known d e = record { length = e; decodes = λ h. refl }
 
 pub form-unknown : (k : ℕ) → (k ≡ 1 → ⊥) → (k ≡ 2 → ⊥) → (k ≡ 3 → ⊥) → (k ≡ 4 → ⊥) → (k ≡ 5 → ⊥) → (k ≡ 6 → ⊥) → FormIs k (record { length = 0; decoder = Nothing })
-unfolding frameLength
-form-unknown k a b c d e f = record {
-  length = rw (ne-eqb k 1 a, ne-eqb k 2 b, ne-eqb k 3 c, ne-eqb k 4 d, ne-eqb k 5 e, ne-eqb k 6 f);
-  decodes = λ l. absurd (omega arith);
-}
+form-unknown k a b c d e f = record { length = sym (no-kind k a b c d e f); decodes = λ l. absurd (omega arith) }

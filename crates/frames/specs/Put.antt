@@ -8,7 +8,7 @@ use native.Mathlib.Numerals.{add-one}
 use lib.ListN.{length, getD, take, drop, set, length-append, length-take, length-drop, take-append-drop}
 use lib.Seq.{take-suc, drop-cons, getD-drop, take-at, drop-at, drop-drop, length-take-le, sets-eq, sets, length-sets, take-all}
 use Rattle.rules.specs.Frames.{digit, hexOf, lineOf, rowLines}
-use Rattle.frames.specs.Hex.{hex-length, hex-append}
+use Rattle.unique.specs.Hex.{hex-length, hex-append}
 
 pub record Put (bytes : List ℕ) (at : ℕ) (was out : List ℕ) : Type 0 where
   pub over : out ≡ take at was ++ (bytes ++ drop (at + length bytes) was)

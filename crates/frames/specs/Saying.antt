@@ -10,15 +10,22 @@ use lib.ListN.{length, take, getD}
 use lib.Dec.{eqb}
 use lib.Seq.{getD-take, length-take-le}
 use Rattle.rules.specs.declared.State.{State}
+use Rattle.rules.specs.Answer.{Unless}
 use Rattle.rules.specs.Portal.{byteAt, num2, num3}
 use Rattle.rules.specs.Frames.{hexOf, lineOf, lengthBy, frameLength, Frame, Said, PlaceFrame, LinkFrame, PlanFrame, BookFrame, CancelFrame, PageFrame, FrameSays, LineSays}
+use Rattle.unique.specs.Hex.{AreBytes, hex-injective}
 use Rattle.frames.specs.declared.Line.{Line}
-use Rattle.frames.specs.Hex.{AreBytes, hex-injective}
+use Rattle.frames.specs.declared.Told.{Told}
 use Rattle.frames.specs.Lines.{LineIs, Decoded}
+use Rattle.frames.specs.Told.{Spoken, Silent}
 
 -- for each line that the buffer stands for
 abbrev pub Tells : State → Line → State → List ℕ → Type 0
 Tells s l s′ said = (line : List ℕ) → LineIs line l → LineSays s line s′ said
+
+-- no answer is longer than 30,000 bytes: a shorter list is left as it is, and the state too
+abbrev pub AnswerIs : State → Line → List ℕ → List ℕ → Told → Type 0
+AnswerIs s l was out r = Unless (30000 ≤ length was) (Silent s was out r) (Spoken (Tells s l) was out r)
 
 abbrev pub Reads : Line → List ℕ → ℕ → Type 0
 Reads l bytes n = (line : List ℕ) → LineIs line l → Decoded line bytes n

@@ -23,6 +23,15 @@ pub record Spoken (P : State → List ℕ → Type 0) (was out : List ℕ) (r : 
   pub fits : r .len ≤ 30000
   pub long : length out ≡ length was
 
+-- nothing is said and nothing changes
+pub record Silent (s : State) (was out : List ℕ) (r : Told) : Type 0 where
+  pub stays : r .state ≡ s
+  pub none : r .len ≡ 0
+  pub same : out ≡ was
+
+pub silent : (s : State) (was : List ℕ) → Silent s was was (record { state = s; len = 0 })
+silent s was = record { stays = refl; none = refl; same = refl }
+
 pub spoken : (P : State → List ℕ → Type 0) {said was out : List ℕ} (s : State) (len : ℕ) → Answers said was out len → length said ≤ 30000 → P s said
     → Spoken P was out (record { state = s; len = len })
 spoken P {said} {was} {out} s len A h p = record {

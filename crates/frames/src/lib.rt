@@ -19,13 +19,13 @@ ghost use mathlib.Core.List.{List, [], _∷_, _++_};
 ghost use lib.ListN.{length, take, drop};
 ghost use Rattle.rules.specs.Rows.{bit};
 ghost use Rattle.rules.specs.Answer.{number, plannedNumber, plannedArrival, plannedCount, bookedNumber, bookedTicket, bookedArrival, bookedCount, cancelledNumber, cancelledCount, pagedNumber, pagedCount, pagedMore};
-ghost use Rattle.rules.specs.Frames.{digit, hexOf, lineOf, rowLines, after00, bytes2, bytes3, Said, PlaceFrame, LinkFrame, PlanFrame, BookFrame, CancelFrame, PageFrame, begins};
-ghost use Rattle.frames.specs.Hex.{Value};
+ghost use Rattle.rules.specs.Frames.{digit, hexOf, lineOf, rowLines, after00, bytes2, bytes3, closedWith, Said, PlaceFrame, LinkFrame, PlanFrame, BookFrame, CancelFrame, PageFrame, begins};
+ghost use Rattle.unique.specs.Hex.{Value};
 ghost use Rattle.frames.specs.Lines.{LineIs, Decoded, FormIs};
 ghost use Rattle.frames.specs.Heads.{HeadIs};
 ghost use Rattle.frames.specs.Told.{Answers, Spoken};
-ghost use Rattle.frames.specs.Saying.{Tells};
-ghost use Rattle.frames.specs.Cutting.{CutIs, Stepped, FedIs, Ends};
+ghost use Rattle.frames.specs.Saying.{Tells, AnswerIs};
+ghost use Rattle.frames.specs.Cutting.{CutIs, Stepped, FedIs, EndedIs};
 ghost use Rattle.frames.specs.Put.{Put, Digits, RowsPut};
 
 // The digits of a line, of which a frame has at most 18: len 19 stands for any longer line.
@@ -488,6 +488,18 @@ fn link_frame(s: State, b: &[u8; 9], out: &mut [u8]) -> Told
     }
 }
 
+// "01 or 02 after any well-shaped frame of another kind" is refused: such a frame closes the map.
+fn closed_with(s: State, book: Book) -> State
+    ensures { λ r. ⌜ r ≡ closedWith s book ⌝ }
+{
+    let m = s.map;
+    State {
+        map: m,
+        book: book,
+        closed: true,
+    }
+}
+
 fn wide(x: u8) -> u32
     ensures { λ r. ⌜ r ≡ x ⌝ }
 {
@@ -509,12 +521,9 @@ fn plan_frame(s: State, b: &[u8; 9], out: &mut [u8]) -> Told
     let h = plan_head(p);
     let rows = plan_rows(p);
     let len = put_answer(h, &list, rows, out);
+    let next = closed_with(s, book);
     Told {
-        state: State {
-            map: m,
-            book: book,
-            closed: true,
-        },
+        state: next,
         len: len,
     }
 }
@@ -534,12 +543,9 @@ fn book_frame(s: State, b: &[u8; 9], out: &mut [u8]) -> Told
     let answer = r.answer;
     let h = book_head(answer);
     let len = put_answer(h, b, 0, out);
+    let next = closed_with(s, after);
     Told {
-        state: State {
-            map: m,
-            book: after,
-            closed: true,
-        },
+        state: next,
         len: len,
     }
 }
@@ -557,12 +563,9 @@ fn cancel_frame(s: State, b: &[u8; 9], out: &mut [u8]) -> Told
     let answer = r.answer;
     let h = cancel_head(answer);
     let len = put_answer(h, b, 0, out);
+    let next = closed_with(s, after);
     Told {
-        state: State {
-            map: m,
-            book: after,
-            closed: true,
-        },
+        state: next,
         len: len,
     }
 }
@@ -588,18 +591,15 @@ fn page_frame(s: State, b: &[u8; 9], out: &mut [u8]) -> Told
     let h = page_head(p);
     let rows = page_rows(p);
     let len = put_answer(h, &list, rows, out);
+    let next = closed_with(s, book);
     Told {
-        state: State {
-            map: m,
-            book: book,
-            closed: true,
-        },
+        state: next,
         len: len,
     }
 }
 
 // What a line makes of the state, and the bytes that it prints, over the first of out.
-pub fn answer(s: State, l: Line, out: &mut [u8]) -> Told
+fn reply(s: State, l: Line, out: &mut [u8]) -> Told
     requires { ⌜ 30000 ≤ length (now out) ⌝ }
     ensures { λ r. ⌜ Spoken (Tells s l) (now (out .entry)) (now (out .exit)) r ⌝ }
 {
@@ -623,6 +623,16 @@ pub fn answer(s: State, l: Line, out: &mut [u8]) -> Told
         Decoder::Page => page_frame(s, &bytes, out),
         Decoder::Nothing => refused(s, out),
     }
+}
+
+// The same for every list: one too short for the longest answer is left as it is, and so is the state.
+pub fn answer(s: State, l: Line, out: &mut [u8]) -> Told
+    ensures { λ r. ⌜ AnswerIs s l (now (out .entry)) (now (out .exit)) r ⌝ }
+{
+    if out.len() < 30000 {
+        return Told { state: s, len: 0 };
+    }
+    reply(s, l, out)
 }
 
 // ---- input cut into lines
@@ -681,9 +691,9 @@ fn step(d: Desk, buf: &[u8], from: usize, at: usize, out: &mut [u8]) -> Intake
     let s = d.state;
     let begun = d.line;
     let c = take_line(begun, buf, from);
-    let line = c.line;
+    let taken = c.line;
     if c.ended {
-        let t = answer(s, line, &mut out[at..]);
+        let t = reply(s, taken, &mut out[at..]);
         let after = t.state;
         let next = Line::empty();
         return Intake {
@@ -698,7 +708,7 @@ fn step(d: Desk, buf: &[u8], from: usize, at: usize, out: &mut [u8]) -> Intake
     Intake {
         desk: Desk {
             state: s,
-            line: line,
+            line: taken,
         },
         upto: c.upto,
         len: at,
@@ -707,8 +717,6 @@ fn step(d: Desk, buf: &[u8], from: usize, at: usize, out: &mut [u8]) -> Intake
 
 // The answers of the lines that the bytes from an index on end, as long as the caller's list has room for one more.
 pub fn fed(d: Desk, buf: &[u8], from: usize, out: &mut [u8]) -> Intake
-    requires { ⌜ from ≤ length (now buf) ⌝ }
-    requires { ⌜ 30000 ≤ length (now out) ⌝ }
     ensures { λ r. ⌜ FedIs d (now (buf .entry)) from (now (out .entry)) (now (out .exit)) r ⌝ }
 {
     let mut e = d;
@@ -737,15 +745,17 @@ pub fn fed(d: Desk, buf: &[u8], from: usize, out: &mut [u8]) -> Intake
 
 // The last line, where it lacks its line feed.
 pub fn ended(d: Desk, out: &mut [u8]) -> Told
-    requires { ⌜ 30000 ≤ length (now out) ⌝ }
-    ensures { λ r. ⌜ Spoken (Ends d) (now (out .entry)) (now (out .exit)) r ⌝ }
+    ensures { λ r. ⌜ EndedIs d (now (out .entry)) (now (out .exit)) r ⌝ }
 {
     let s = d.state;
     let line = d.line;
+    if out.len() < 30000 {
+        return Told { state: s, len: 0 };
+    }
     if line.len == 0 {
         return Told { state: s, len: 0 };
     }
-    answer(s, line, out)
+    reply(s, line, out)
 }
 
 impl Desk {

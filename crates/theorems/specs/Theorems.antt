@@ -10,6 +10,7 @@ use lib.ListN.{length}
 use Rattle.rules.specs.declared.Map.{Map}
 use Rattle.rules.specs.declared.Book.{Book}
 use Rattle.rules.specs.declared.Row.{Row}
+use Rattle.rules.specs.declared.State.{State}
 use Rattle.rules.specs.declared.Planned.{Planned}
 use Rattle.rules.specs.declared.Paged.{Paged}
 use Rattle.rules.specs.declared.Booking.{Booking}
@@ -31,7 +32,15 @@ use Rattle.walks.specs.Walk.{Others, Walk, Walked}
 use Rattle.walks.specs.WalkLaws.{others-good, walked}
 use Rattle.theorems.specs.Freed.{load-split, fewer-permit, PermittedRun, run-permitted, cancelling-next, others-next}
 use Rattle.rules.specs.Portal.{PortalPlan, PortalPage}
+use Rattle.rules.specs.Frames.{LineSays, LinesSay, allLines, begins}
 use Rattle.unique.specs.Unique.{no-second-plan, no-second-booking, no-second-cancelling, no-second-page, no-second-portal-plan, no-second-portal-page}
+use Rattle.unique.specs.Line.{no-second-line, no-second-lines}
+use Rattle.frames.specs.declared.Line.{Line}
+use Rattle.frames.specs.declared.Desk.{Desk}
+use Rattle.frames.specs.declared.Told.{Told}
+use Rattle.frames.specs.Saying.{AnswerIs}
+use Rattle.frames.specs.Cutting.{EndedIs}
+use Rattle.frames.specs.Unique.{no-second-answer, no-second-ending}
 
 -- ---- demand 2: "the plan given overfills no place, meets no booked wagon in a head-on exchange, and no permitted plan arrives sooner"
 
@@ -239,3 +248,16 @@ one-portal-plan {map} {book} {start} {dest} {s} {was} {out} {out′} {r} {r′} 
 
 pub one-portal-page : {map book : List ℕ} {size : ℕ} {k : Key} {was out out′ : List ℕ} {r r′ : ℕ} → PortalPage map book size k was out r → PortalPage map book size k was out′ r′ → (r ≡ r′) × (out ≡ out′)
 one-portal-page {map} {book} {size} {k} {was} {out} {out′} {r} {r′} = no-second-portal-page map book size k was out out′ r r′
+
+-- a line of the program's input, all its lines, and the program's two answering calls
+pub one-line : {s s₁ s₂ : State} {line said₁ said₂ : List ℕ} → LineSays s line s₁ said₁ → LineSays s line s₂ said₂ → (s₁ ≡ s₂) × (said₁ ≡ said₂)
+one-line = no-second-line
+
+pub one-output : (input : List ℕ) {s₁ s₂ : State} {said₁ said₂ : List ℕ} → LinesSay begins (allLines input) s₁ said₁ → LinesSay begins (allLines input) s₂ said₂ → (s₁ ≡ s₂) × (said₁ ≡ said₂)
+one-output input = no-second-lines
+
+pub one-answer : {s : State} {l : Line} {was out out′ : List ℕ} {r r′ : Told} → AnswerIs s l was out r → AnswerIs s l was out′ r′ → (r ≡ r′) × (out ≡ out′)
+one-answer = no-second-answer
+
+pub one-ending : {d : Desk} {was out out′ : List ℕ} {r r′ : Told} → EndedIs d was out r → EndedIs d was out′ r′ → (r ≡ r′) × (out ≡ out′)
+one-ending = no-second-ending

@@ -1,2 +1,4 @@
 pub mod Values
 pub mod Unique
+pub mod Hex
+pub mod Line

@@ -14,6 +14,7 @@ use Rattle.frames.proofs.book_frame.Statement.{statement}
 use Rattle.frames.proofs.book_frame.Tie as tie
 use Rattle.frames.proofs.book_frame.Reads as reads
 use Rattle.frames.proofs.book_frame.Lts as lts
+use Rattle.frames.proofs.closed_with.Reads as closed-with-reads
 use Rattle.frames.proofs.book_head.Reads as book-head-reads
 use Rattle.frames.proofs.put_answer.Reads as put-answer-reads
 use Rattle.frames.proofs.wide.Reads as wide-reads
@@ -50,13 +51,18 @@ book-head-requires c κs = search needs
 put-answer-requires : tie.Need-put-answer-requires
 put-answer-requires c κs = search needs
 
+-- src/lib.rt:546:9
+closed-with-requires : tie.Need-closed-with-requires
+closed-with-requires c κs = search needs
+
 -- src/lib.rt:433:1
 same-length : tie.Need-same-length
 same-length c = search needs
 
 -- src/lib.rt:433:1
 returns : tie.Need-returns
-returns c = book-frame (c .before .before .before .before .before .before .before .before .before .before .before .before .before .before .before .before .before .args .s) (c .before .before .before .before .before .before .before .before .before .before .before .before .before .before .before .before .before .args .b .now) (c .before .before .before .before .before .book-head .result) (c .before .before .before .before .before .before .before .book2 .result) (c .before .before .before .before .before .before .before .before .before .before .before .before .before .before .before .before .before .args .b .now) (c .before .before .before .before .before .before .before .before .before .before .before .before .wide .ensures) (c .before .before .before .before .before .before .before .before .before .before .wide2 .ensures) (c .before .before .before .before .before .before .before .before .three .ensures .0) (c .before .before .before .before .before .before .before .book2 .ensures) (c .before .before .before .before .before .book-head .ensures) (c .before .before .put-answer .ensures)
+returns c = rw (c .closed-with .ensures)
+    (book-frame (c .before .before .before .before .before .before .before .before .before .before .before .before .before .before .before .before .before .before .args .s) (c .before .before .before .before .before .before .before .before .before .before .before .before .before .before .before .before .before .before .args .b .now) (c .before .before .before .before .before .before .book-head .result) (c .before .before .before .before .before .before .before .before .book2 .result) (c .before .before .before .before .before .before .before .before .before .before .before .before .before .before .before .before .before .before .args .b .now) (c .before .before .before .before .before .before .before .before .before .before .before .before .before .wide .ensures) (c .before .before .before .before .before .before .before .before .before .before .before .wide2 .ensures) (c .before .before .before .before .before .before .before .before .before .three .ensures .0) (c .before .before .before .before .before .before .before .before .book2 .ensures) (c .before .before .before .before .before .before .book-head .ensures) (c .before .before .before .put-answer .ensures))
 
 pub book-frame-spec : {M : Type 1} → statement M
 book-frame-spec =
@@ -70,5 +76,6 @@ book-frame-spec =
     book-requires
     book-head-requires
     put-answer-requires
+    closed-with-requires
     same-length
     returns)

@@ -14,6 +14,7 @@ use Rattle.frames.proofs.cancel_frame.Statement.{statement}
 use Rattle.frames.proofs.cancel_frame.Tie as tie
 use Rattle.frames.proofs.cancel_frame.Reads as reads
 use Rattle.frames.proofs.cancel_frame.Lts as lts
+use Rattle.frames.proofs.closed_with.Reads as closed-with-reads
 use Rattle.frames.proofs.cancel_head.Reads as cancel-head-reads
 use Rattle.frames.proofs.put_answer.Reads as put-answer-reads
 
@@ -33,13 +34,18 @@ cancel-head-requires c κs = search needs
 put-answer-requires : tie.Need-put-answer-requires
 put-answer-requires c κs = search needs
 
+-- src/lib.rt:566:9
+closed-with-requires : tie.Need-closed-with-requires
+closed-with-requires c κs = search needs
+
 -- src/lib.rt:451:1
 same-length : tie.Need-same-length
 same-length c = search needs
 
 -- src/lib.rt:451:1
 returns : tie.Need-returns
-returns c = cancel-frame (c .before .before .before .before .before .before .before .before .before .before .before .before .before .args .s) (c .before .before .before .before .before .before .before .before .before .before .before .before .before .args .b .now) (c .before .before .before .before .before .cancel-head .result) (c .before .before .before .before .before .before .before .cancel .result) (c .before .before .before .before .before .before .before .before .before .before .before .before .before .args .b .now) (c .before .before .before .before .before .before .before .before .three .ensures .0) (c .before .before .before .before .before .before .before .cancel .ensures) (c .before .before .before .before .before .cancel-head .ensures) (c .before .before .put-answer .ensures)
+returns c = rw (c .closed-with .ensures)
+    (cancel-frame (c .before .before .before .before .before .before .before .before .before .before .before .before .before .before .args .s) (c .before .before .before .before .before .before .before .before .before .before .before .before .before .before .args .b .now) (c .before .before .before .before .before .before .cancel-head .result) (c .before .before .before .before .before .before .before .before .cancel .result) (c .before .before .before .before .before .before .before .before .before .before .before .before .before .before .args .b .now) (c .before .before .before .before .before .before .before .before .before .three .ensures .0) (c .before .before .before .before .before .before .before .before .cancel .ensures) (c .before .before .before .before .before .before .cancel-head .ensures) (c .before .before .before .put-answer .ensures))
 
 pub cancel-frame-spec : {M : Type 1} → statement M
 cancel-frame-spec =
@@ -49,5 +55,6 @@ cancel-frame-spec =
     cancel-requires
     cancel-head-requires
     put-answer-requires
+    closed-with-requires
     same-length
     returns)

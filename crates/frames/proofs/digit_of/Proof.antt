@@ -1,6 +1,6 @@
 -- `frames::digit_of` meets its contract: values below ten are the digits from 0, the others the letters from A.
 use native.Mathlib.Omega.{arith}
-use Rattle.frames.specs.Hex.{digit-low, digit-high}
+use Rattle.unique.specs.Hex.{digit-low, digit-high}
 use borrow.Author.Needs.{needs}
 use Rattle.frames.proofs.digit_of.Statement.{statement}
 use Rattle.frames.proofs.digit_of.Tie as tie

@@ -22,7 +22,7 @@ abbrev μ-loop : tie.MeasureT-loop
 
 -- src/lib.rt:582:5
 loop-holds : tie.Need-loop-holds Inv-loop μ-loop
-loop-holds c = feeding-start _ _ _ _ (c .before .before .pre .0)
+loop-holds c = feeding-start _ _ _ _
 
 -- src/lib.rt:583:12
 sub-if1 : tie.Need-sub-if1 Inv-loop μ-loop
@@ -34,11 +34,11 @@ same-length c = c .before .before .loop .inv .put .long
 
 -- src/lib.rt:584:13
 returns : tie.Need-returns Inv-loop μ-loop
-returns c = fed-is (c .before .before .loop .inv) (c .before .before .before .before .before .pre .1) (λ h. omega (arith, c .before .before .loop .inv .fits, c .before .before .loop .inv .put .long))
+returns c = fed-is (c .before .before .loop .inv) (λ h. omega (arith, c .before .before .loop .inv .fits, c .before .before .loop .inv .put .long))
 
 -- src/lib.rt:586:13
 step-requires : tie.Need-step-requires Inv-loop μ-loop
-step-requires c κs = (c .before .before .before .loop .inv .within, omega (arith, c .before .before .before .loop .inv .fits, c .before .before .before .loop .inv .put .long))
+step-requires c κs = (omega arith, omega (arith, c .before .before .before .loop .inv .fits, c .before .before .before .loop .inv .put .long))
 
 -- src/lib.rt:582:5
 loop-less : tie.Need-loop-less Inv-loop μ-loop
@@ -54,7 +54,7 @@ same-length-2 c = c .before .loop .inv .put .long
 
 -- src/lib.rt:574:1
 returns-2 : tie.Need-returns-2 Inv-loop μ-loop
-returns-2 c = fed-is (c .before .loop .inv) (c .before .before .before .before .pre .1) (λ h. absurd (omega (arith, c .before .loop .inv .within)))
+returns-2 c = fed-is (c .before .loop .inv) (λ h. absurd (omega arith))
 
 pub fed-spec : {M : Type 1} → statement M
 fed-spec =

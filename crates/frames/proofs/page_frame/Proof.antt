@@ -14,6 +14,7 @@ use Rattle.frames.proofs.page_frame.Statement.{statement}
 use Rattle.frames.proofs.page_frame.Tie as tie
 use Rattle.frames.proofs.page_frame.Reads as reads
 use Rattle.frames.proofs.page_frame.Lts as lts
+use Rattle.frames.proofs.closed_with.Reads as closed-with-reads
 use Rattle.frames.proofs.page_head.Reads as page-head-reads
 use Rattle.frames.proofs.page_rows.Reads as page-rows-reads
 use Rattle.frames.proofs.put_answer.Reads as put-answer-reads
@@ -70,6 +71,10 @@ put-answer-requires c κs =
     let f = page-few (c .before .before .before .before .before .page .ensures) in
     ((c .before .before .before .page-head .ensures .fits, c .before .before .before .page-head .ensures .long), (omega (arith, c .before .before .page-rows .ensures), omega (arith, c .before .before .page-rows .ensures)))
 
+-- src/lib.rt:594:9
+closed-with-requires : tie.Need-closed-with-requires
+closed-with-requires c κs = search needs
+
 -- src/lib.rt:467:1
 same-length : tie.Need-same-length
 same-length c = search needs
@@ -77,9 +82,10 @@ same-length c = search needs
 -- src/lib.rt:467:1
 returns : tie.Need-returns
 returns c =
-    let k : length (c .before .before .before .before .before .before .before .before .page .last .1 .1 .1 .1 .0) ≡ 14080 = c .before .before .before .before .before .before .before .before .page .kept .1 .1 .1 .1 .0 in
-    let f = page-few (c .before .before .before .before .before .before .before .before .page .ensures) in
-    page-frame (c .before .before .before .before .before .before .before .before .before .before .before .before .before .before .before .before .before .before .before .before .before .args .s) (c .before .before .before .before .before .before .before .before .before .before .before .before .before .before .before .before .before .before .before .before .before .args .b .now) (c .before .before .before .before .before .before .page-head .result) (c .before .before .before .before .before .before .before .before .page .result) (c .before .before .before .before .before .before .before .before .page .last .1 .1 .1 .1 .0) (c .before .before .before .before .before .page-rows .result) (c .before .before .before .before .before .before .before .before .before .before .before .before .before .before .before .before .wide .ensures) (c .before .before .before .before .before .before .before .before .before .before .before .before .before .before .wide2 .ensures) (c .before .before .before .before .before .before .before .before .before .before .before .before .three .ensures .0) (c .before .before .before .before .before .before .before .before .before .before .three2 .ensures .0) (c .before .before .before .before .before .before .before .before .page .ensures) (omega (arith, c .before .before .before .before .before .page-rows .ensures)) k (c .before .before .before .before .before .page-rows .ensures) (c .before .before .before .before .before .before .page-head .ensures) (c .before .before .put-answer .ensures)
+    let k : length (c .before .before .before .before .before .before .before .before .before .page .last .1 .1 .1 .1 .0) ≡ 14080 = c .before .before .before .before .before .before .before .before .before .page .kept .1 .1 .1 .1 .0 in
+    let f = page-few (c .before .before .before .before .before .before .before .before .before .page .ensures) in
+    rw (c .closed-with .ensures)
+    (page-frame (c .before .before .before .before .before .before .before .before .before .before .before .before .before .before .before .before .before .before .before .before .before .before .args .s) (c .before .before .before .before .before .before .before .before .before .before .before .before .before .before .before .before .before .before .before .before .before .before .args .b .now) (c .before .before .before .before .before .before .before .page-head .result) (c .before .before .before .before .before .before .before .before .before .page .result) (c .before .before .before .before .before .before .before .before .before .page .last .1 .1 .1 .1 .0) (c .before .before .before .before .before .before .page-rows .result) (c .before .before .before .before .before .before .before .before .before .before .before .before .before .before .before .before .before .wide .ensures) (c .before .before .before .before .before .before .before .before .before .before .before .before .before .before .before .wide2 .ensures) (c .before .before .before .before .before .before .before .before .before .before .before .before .before .three .ensures .0) (c .before .before .before .before .before .before .before .before .before .before .before .three2 .ensures .0) (c .before .before .before .before .before .before .before .before .before .page .ensures) (omega (arith, c .before .before .before .before .before .before .page-rows .ensures)) k (c .before .before .before .before .before .before .page-rows .ensures) (c .before .before .before .before .before .before .before .page-head .ensures) (c .before .before .before .put-answer .ensures))
 
 pub page-frame-spec : {M : Type 1} → statement M
 page-frame-spec =
@@ -97,5 +103,6 @@ page-frame-spec =
     page-rows-requires
     slice-aggregate-put-answer
     put-answer-requires
+    closed-with-requires
     same-length
     returns)

@@ -14,6 +14,7 @@ use Rattle.frames.proofs.plan_frame.Statement.{statement}
 use Rattle.frames.proofs.plan_frame.Tie as tie
 use Rattle.frames.proofs.plan_frame.Reads as reads
 use Rattle.frames.proofs.plan_frame.Lts as lts
+use Rattle.frames.proofs.closed_with.Reads as closed-with-reads
 use Rattle.frames.proofs.plan_head.Reads as plan-head-reads
 use Rattle.frames.proofs.plan_rows.Reads as plan-rows-reads
 use Rattle.frames.proofs.put_answer.Reads as put-answer-reads
@@ -66,6 +67,10 @@ put-answer-requires c κs =
     let f = plan-few (c .before .before .before .before .before .plan .ensures) (length-replicate {A = ℕ} 14080 0) in
     ((c .before .before .before .plan-head .ensures .fits, c .before .before .before .plan-head .ensures .long), (omega (arith, c .before .before .plan-rows .ensures), omega (arith, c .before .before .plan-rows .ensures)))
 
+-- src/lib.rt:524:9
+closed-with-requires : tie.Need-closed-with-requires
+closed-with-requires c κs = search needs
+
 -- src/lib.rt:415:1
 same-length : tie.Need-same-length
 same-length c = search needs
@@ -73,9 +78,10 @@ same-length c = search needs
 -- src/lib.rt:415:1
 returns : tie.Need-returns
 returns c =
-    let k : length (c .before .before .before .before .before .before .before .before .plan .last .1 .1 .1 .1 .1 .0) ≡ 14080 = c .before .before .before .before .before .before .before .before .plan .kept .1 .1 .1 .1 .1 .0 in
-    let f = plan-few (c .before .before .before .before .before .before .before .before .plan .ensures) (length-replicate {A = ℕ} 14080 0) in
-    plan-frame (c .before .before .before .before .before .before .before .before .before .before .before .before .before .before .before .before .before .before .before .args .s) (c .before .before .before .before .before .before .before .before .before .before .before .before .before .before .before .before .before .before .before .args .b .now) (c .before .before .before .before .before .before .plan-head .result) (c .before .before .before .before .before .before .before .before .plan .result) (c .before .before .before .before .before .before .before .before .plan .last .1 .1 .1 .1 .1 .0) (c .before .before .before .before .before .plan-rows .result) (c .before .before .before .before .before .before .before .before .before .before .before .before .before .before .wide .ensures) (c .before .before .before .before .before .before .before .before .before .before .before .before .wide2 .ensures) (c .before .before .before .before .before .before .before .before .before .before .three .ensures .0) (c .before .before .before .before .before .before .before .before .plan .ensures) (omega (arith, c .before .before .before .before .before .plan-rows .ensures)) k (c .before .before .before .before .before .plan-rows .ensures) (c .before .before .before .before .before .before .plan-head .ensures) (c .before .before .put-answer .ensures)
+    let k : length (c .before .before .before .before .before .before .before .before .before .plan .last .1 .1 .1 .1 .1 .0) ≡ 14080 = c .before .before .before .before .before .before .before .before .before .plan .kept .1 .1 .1 .1 .1 .0 in
+    let f = plan-few (c .before .before .before .before .before .before .before .before .before .plan .ensures) (length-replicate {A = ℕ} 14080 0) in
+    rw (c .closed-with .ensures)
+    (plan-frame (c .before .before .before .before .before .before .before .before .before .before .before .before .before .before .before .before .before .before .before .before .args .s) (c .before .before .before .before .before .before .before .before .before .before .before .before .before .before .before .before .before .before .before .before .args .b .now) (c .before .before .before .before .before .before .before .plan-head .result) (c .before .before .before .before .before .before .before .before .before .plan .result) (c .before .before .before .before .before .before .before .before .before .plan .last .1 .1 .1 .1 .1 .0) (c .before .before .before .before .before .before .plan-rows .result) (c .before .before .before .before .before .before .before .before .before .before .before .before .before .before .before .wide .ensures) (c .before .before .before .before .before .before .before .before .before .before .before .before .before .wide2 .ensures) (c .before .before .before .before .before .before .before .before .before .before .before .three .ensures .0) (c .before .before .before .before .before .before .before .before .before .plan .ensures) (omega (arith, c .before .before .before .before .before .before .plan-rows .ensures)) k (c .before .before .before .before .before .before .plan-rows .ensures) (c .before .before .before .before .before .before .before .plan-head .ensures) (c .before .before .before .put-answer .ensures))
 
 pub plan-frame-spec : {M : Type 1} → statement M
 plan-frame-spec =
@@ -92,5 +98,6 @@ plan-frame-spec =
     plan-rows-requires
     slice-aggregate-put-answer
     put-answer-requires
+    closed-with-requires
     same-length
     returns)

@@ -1,7 +1,7 @@
 -- `frames::value` meets its contract: the two ranges of digits give their values, and no other byte is a digit.
 use Prim.Native.Nat.{ℕ}
 use native.Mathlib.Omega.{arith}
-use Rattle.frames.specs.Hex.{value-low, value-high, value-none}
+use Rattle.unique.specs.Hex.{value-low, value-high, value-none}
 use borrow.Author.Needs.{needs}
 use Rattle.frames.proofs.value.Statement.{statement}
 use Rattle.frames.proofs.value.Tie as tie
