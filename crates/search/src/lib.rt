@@ -45,11 +45,11 @@ fn sooner(a: u32, b: u32) -> u32
 }
 
 // How many of the first n rows exit at t: with none there is no crossing to look for.
-fn exits_at(exit: &[u32; 1024], n: usize, t: u32) -> usize
+fn exits_at(exit: &[u32; 1024], n: usize, t: u32) -> u32
     requires { ⌜ n ≤ 1024 ⌝ }
     ensures { λ r. ⌜ (r ≡ 0 → (i : ℕ) → i < n → at (now (exit .entry)) i ≡ t → ⊥) ⌝ }
 {
-    let mut c: usize = 0;
+    let mut c: u32 = 0;
     let mut i: usize = 0;
     while i < n {
         if exit[i] == t {
