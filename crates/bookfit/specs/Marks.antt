@@ -147,6 +147,13 @@ module _ (K N : ℕ → ℕ) where
   pub clash-breaks : (c n : ℕ) → c < n → Clash K N c → OneLast K N n → ⊥
   clash-breaks c n h C O = let e = C .earlier in O .once (e .row) c (e .below) h (e .last) (C .last) (e .ticket)
 
+-- a mark set, and the marks that stood
+pub mark-set : (tl : List Bool) (z x : ℕ) → z < length tl → x ≡ z → getD (set tl z true) x false ≡ true
+mark-set tl z x h e = ap (λ (u : ℕ). getD (set tl z true) u false) e ∙ getD-set-same tl z true false h
+
+pub mark-kept : (tl : List Bool) (z x : ℕ) → z < length tl → getD tl x false ≡ true → getD (set tl z true) x false ≡ true
+mark-kept tl z x h t = ⊎-elim (mark-set tl z x h) (λ (ne : x ≡ z → ⊥). getD-set-other tl z x true false ne ∙ t) (eq-or-ne x z)
+
 -- last rows so far have different tickets, and each has marked its ticket's slot
 pub record Seen (K N : ℕ → ℕ) (tk : ℕ → Bool) (c : ℕ) : Type 0 where
   pub one : OneLast K N c
@@ -170,7 +177,7 @@ module _ (K N : ℕ → ℕ) (n m c : ℕ) (tl tl′ : List Bool) (len : length 
     length-set tl z true ∙ len,
     record {
       one = one-last-next K N c (S .one) (λ C. let b = C .earlier in f (subst (λ (x : ℕ). getD tl x false ≡ true) (same b ∙ sym ez) (S .marks (b .row) (b .below) (b .last))) b);
-      marks = below-next (λ b. IsLast (K b) (N b) → getD (set tl z true) (K b % 4096) false ≡ true) c (λ b h e. kept (K b % 4096) (S .marks b h e)) (λ _. kept′ (K c % 4096) (sym ez));
+      marks = below-next (λ b. IsLast (K b) (N b) → getD (set tl z true) (K b % 4096) false ≡ true) c (λ b h e. mark-kept tl z (K b % 4096) (omega arith) (S .marks b h e)) (λ _. mark-set tl z (K c % 4096) (omega arith) (sym ez));
     },
   )
     where
@@ -182,12 +189,6 @@ module _ (K N : ℕ → ℕ) (n m c : ℕ) (tl tl′ : List Bool) (len : length 
             where
               coarse : (x : ℕ) → x % 4096 ≡ x % 16777216 % 4096
               coarse x = omega arith
-
-      kept′ : (x : ℕ) → x ≡ z → getD (set tl z true) x false ≡ true
-      kept′ x r = ap (λ (u : ℕ). getD (set tl z true) u false) r ∙ getD-set-same tl z true false (omega arith)
-
-      kept : (x : ℕ) → getD tl x false ≡ true → getD (set tl z true) x false ≡ true
-      kept x t = ⊎-elim (λ (r : x ≡ z). ap (λ (u : ℕ). getD (set tl z true) u false) r ∙ getD-set-same tl z true false (omega arith)) (λ (ne : x ≡ z → ⊥). getD-set-other tl z x true false ne ∙ t) (eq-or-ne x z)
 
 pub seen-start : (K N : ℕ → ℕ) (tk : ℕ → Bool) → Seen K N tk 0
 seen-start K N tk = record { one = one-last-start K N; marks = λ b h. absurd (omega arith) }

@@ -11,7 +11,7 @@ ghost use Rattle.flat.specs.Flat.{placesIn, linksIn, Chained, placeOf, entryOf,
 ghost use Rattle.bookfit.specs.Search.{Split};
 ghost use Rattle.bookfit.specs.Join.{nextKey, IsLast, Spot, Joined, OneLast, LastBelow};
 ghost use Rattle.bookfit.specs.Rows.{TicketFits, TicketsFit, RowFits, RowsFit};
-ghost use Rattle.bookfit.specs.Against.{Crossed, Opposed, Unopposed};
+ghost use Rattle.bookfit.specs.Against.{Crossed, Opposed, Unopposed, crossSlot};
 ghost use Rattle.bookfit.specs.Formed.{Sound};
 ghost use Rattle.bookfit.specs.Answer.{BookFits};
 
@@ -344,7 +344,17 @@ fn row_index(i: u16) -> usize
     i as usize
 }
 
-// row i goes on, and a row of its next place goes against it
+// the slot of a row's crossing: a crossing against it has the same
+fn cross_slot(key: u64, exit: u32, next: u8) -> usize
+    ensures { λ r. ⌜ (r ≡ crossSlot key exit next) × (r < 4096) ⌝ }
+{
+    let p = key / 281474976710656;
+    let q = next as u64;
+    let x = exit as u64;
+    ((x + 16 * (p + q)) % 4096) as usize
+}
+
+// a row of the next place of row i, which goes on, goes against it
 fn opposed(
     n: usize,
     key: &[u64; 1024],
@@ -357,21 +367,39 @@ fn opposed(
     requires { ⌜ count ≤ 1024 ⌝ }
     requires { ⌜ i < count ⌝ }
     requires { ⌜ Grouped (λ j. placeOf (at (now key) j)) (now rows) n count ⌝ }
-    requires { ⌜ ((IsLast (at (now key) i) (at (now next) i) → ⊥) → at (now next) i < n) ⌝ }
+    requires { ⌜ (IsLast (at (now key) i) (at (now next) i) → ⊥) × (at (now next) i < n) ⌝ }
     ensures { λ r. ⌜ (r ≡ true → Opposed (at (now (key .entry))) (at (now (exit .entry))) (at (now (next .entry))) count i) × (Opposed (at (now (key .entry))) (at (now (exit .entry))) (at (now (next .entry))) count i → r ≡ true) ⌝ }
 {
-    let k = key[i];
-    let q = next[i];
-    if is_last(k, q) {
-        return false;
-    }
-    let h = place_index(q);
+    let h = place_index(next[i]);
     let a = row_index(rows[h]);
     let b = row_index(rows[h + 1]);
-    crossed(exit, next, a, b, k / 281474976710656, exit[i])
+    crossed(exit, next, a, b, key[i] / 281474976710656, exit[i])
 }
 
-// no row goes against another
+// where the slot is marked: a row of the next place of row i goes against it
+fn opposed_met(
+    n: usize,
+    key: &[u64; 1024],
+    exit: &[u32; 1024],
+    next: &[u8; 1024],
+    count: usize,
+    rows: &[u16; 257],
+    i: usize,
+    marked: bool,
+) -> bool
+    requires { ⌜ count ≤ 1024 ⌝ }
+    requires { ⌜ i < count ⌝ }
+    requires { ⌜ Grouped (λ j. placeOf (at (now key) j)) (now rows) n count ⌝ }
+    requires { ⌜ (IsLast (at (now key) i) (at (now next) i) → ⊥) × (at (now next) i < n) ⌝ }
+    ensures { λ r. ⌜ (r ≡ true → Opposed (at (now (key .entry))) (at (now (exit .entry))) (at (now (next .entry))) count i) × (marked ≡ true → Opposed (at (now (key .entry))) (at (now (exit .entry))) (at (now (next .entry))) count i → r ≡ true) ⌝ }
+{
+    if !marked {
+        return false;
+    }
+    opposed(n, key, exit, next, count, rows, i)
+}
+
+// no row goes against another: a look through the next place's rows only where the crossing's slot is marked already
 pub fn exchange_kept(
     n: usize,
     key: &[u64; 1024],
@@ -385,10 +413,18 @@ pub fn exchange_kept(
     requires { ⌜ ((i : ℕ) → i < count → (IsLast (at (now key) i) (at (now next) i) → ⊥) → at (now next) i < n) ⌝ }
     ensures { λ r. ⌜ (r ≡ true → Unopposed (at (now (key .entry))) (at (now (exit .entry))) (at (now (next .entry))) count) × (Unopposed (at (now (key .entry))) (at (now (exit .entry))) (at (now (next .entry))) count → r ≡ true) ⌝ }
 {
+    let mut seen = [false; 4096];
     let mut i = 0;
     while i < count {
-        if opposed(n, key, exit, next, count, rows, i) {
-            return false;
+        let k = key[i];
+        let q = next[i];
+        if !is_last(k, q) {
+            let h = cross_slot(k, exit[i], q);
+            let s = seen[h];
+            if opposed_met(n, key, exit, next, count, rows, i, s) {
+                return false;
+            }
+            seen[h] = true;
         }
         i += 1;
     }

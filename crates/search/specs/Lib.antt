@@ -1,5 +1,6 @@
 pub mod Entries
+pub mod Lanes
+pub mod Look
 pub mod Offers
 pub mod Relax
-pub mod Lanes
 pub mod Trail

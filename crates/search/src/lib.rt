@@ -7,6 +7,7 @@ ghost use Rattle.laws.specs.Lists.{at};
 ghost use Rattle.rules.specs.Rows.{crosses};
 ghost use Rattle.flat.specs.Flat.{rowsIn, placeOf, yardIn};
 ghost use Rattle.settle.specs.Blocks.{Blocks};
+ghost use Rattle.search.specs.Look.{CrossedAmong};
 ghost use Rattle.search.specs.Entries.{FirstClear};
 ghost use Rattle.search.specs.Offers.{Row1, Labels, Tried, OfferedTo, OpenFrom, BeginsAt};
 ghost use Rattle.settle.specs.Search.{Answer, Rooted};
@@ -44,14 +45,14 @@ fn sooner(a: u32, b: u32) -> u32
     b
 }
 
-// How many of the first n rows exit at t: with none there is no crossing to look for.
-fn exits_at(exit: &[u32; 1024], n: usize, t: u32) -> usize
-    requires { ⌜ n ≤ 1024 ⌝ }
-    ensures { λ r. ⌜ (r ≡ 0 → (i : ℕ) → i < n → at (now (exit .entry)) i ≡ t → ⊥) ⌝ }
+// How many of the rows a .. b exit at t: with none there is no crossing to look for.
+fn exits_at(exit: &[u32; 1024], a: usize, b: usize, t: u32) -> u32
+    requires { ⌜ (a ≤ b) × (b ≤ 1024) ⌝ }
+    ensures { λ r. ⌜ (r ≡ 0 → (i : ℕ) → a ≤ i → i < b → at (now (exit .entry)) i ≡ t → ⊥) ⌝ }
 {
-    let mut c: usize = 0;
-    let mut i: usize = 0;
-    while i < n {
+    let mut c: u32 = 0;
+    let mut i = a;
+    while i < b {
         if exit[i] == t {
             c += 1;
         }
@@ -70,21 +71,22 @@ fn goes(key: u64, next: u8, q: u8, p: u8) -> bool
     key / 281474976710656 == q as u64
 }
 
-// Some row goes from q to p at t: a look through all rows.
+// One of the rows a .. b goes from q to p at t.
 fn crossed(
     key: &[u64; 1024],
     exit: &[u32; 1024],
     next: &[u8; 1024],
-    n: usize,
+    a: usize,
+    b: usize,
     q: u8,
     p: u8,
     t: u32,
 ) -> bool
-    requires { ⌜ n ≤ 1024 ⌝ }
-    ensures { λ r. ⌜ r ≡ crosses (rowsIn (now (key .entry)) (now (exit .entry)) (now (next .entry)) n) q p t ⌝ }
+    requires { ⌜ (a ≤ b) × (b ≤ 1024) ⌝ }
+    ensures { λ r. ⌜ CrossedAmong (now (key .entry)) (now (exit .entry)) (now (next .entry)) a b q p t r ⌝ }
 {
-    let mut i: usize = 0;
-    while i < n {
+    let mut i = a;
+    while i < b {
         if exit[i] == t {
             if goes(key[i], next[i], q, p) {
                 return true;
@@ -95,7 +97,39 @@ fn crossed(
     false
 }
 
-// The crossing from p to q at t is barred: a booked run goes from q to p then.
+// The same, with a look only where a row exits at t.
+fn crossed_in(
+    key: &[u64; 1024],
+    exit: &[u32; 1024],
+    next: &[u8; 1024],
+    a: usize,
+    b: usize,
+    q: u8,
+    p: u8,
+    t: u32,
+) -> bool
+    requires { ⌜ (a ≤ b) × (b ≤ 1024) ⌝ }
+    ensures { λ r. ⌜ CrossedAmong (now (key .entry)) (now (exit .entry)) (now (next .entry)) a b q p t r ⌝ }
+{
+    if exits_at(exit, a, b, t) == 0 {
+        return false;
+    }
+    crossed(key, exit, next, a, b, q, p, t)
+}
+
+// The end of the block of at most 128 rows that begins at a.
+fn block_end(a: usize, n: usize) -> usize
+    requires { ⌜ (a < n) × (n ≤ 1024) ⌝ }
+    ensures { λ r. ⌜ (a < r) × (r ≤ n) ⌝ }
+{
+    let b = a + 128;
+    if b < n {
+        return b;
+    }
+    n
+}
+
+// The crossing from p to q at t is barred: a booked run goes from q to p then. All rows are looked through, block after block.
 pub fn barred(
     key: &[u64; 1024],
     exit: &[u32; 1024],
@@ -108,10 +142,15 @@ pub fn barred(
     requires { ⌜ n ≤ 1024 ⌝ }
     ensures { λ r. ⌜ r ≡ crosses (rowsIn (now (key .entry)) (now (exit .entry)) (now (next .entry)) n) q p t ⌝ }
 {
-    if exits_at(exit, n, t) == 0 {
-        return false;
+    let mut a: usize = 0;
+    while a < n {
+        let b = block_end(a, n);
+        if crossed_in(key, exit, next, a, b, q, p, t) {
+            return true;
+        }
+        a = b;
     }
-    crossed(key, exit, next, n, q, p, t)
+    false
 }
 
 // The least second of lo to hi at which the crossing is not barred, 86,401 where there is none.

@@ -1,29 +1,64 @@
--- No row goes against another exactly where the answer is true: none goes against one of the first i rows.
-use Prim.Native.Nat.{_-_}
-use mathlib.Core.Path.{refl}
+-- No row goes against another exactly where the answer is true. Each row met so far that goes on has marked its crossing's slot, so that an
+-- earlier one against it can only be where the slot is marked; there the next place's rows are looked through.
+use Prim.Native.Nat.{_-_, _≤_}
+use mathlib.Core.Path.{_≡_, refl, sym, _∙_}
+use mathlib.Core.Logic.{⊎-elim}
+use mathlib.Core.Bool.{false}
 use native.Mathlib.Omega.{arith}
+use lib.ListN.{length, getD}
 use Rattle.laws.specs.Tests.{not-both}
 use Rattle.laws.specs.Lists.{at}
-use Rattle.bookfit.specs.Each.{Each, each-start, each-next, each-to}
-use Rattle.bookfit.specs.Against.{Opposed}
+use Rattle.bookfit.specs.Marks.{goes-by, last-by}
+use Rattle.bookfit.specs.Against.{Met, met-start, met-all, met-skip, met-mark}
 use borrow.Author.Needs.{needs}
 use Rattle.bookfit.proofs.exchange_kept.Statement.{statement}
 use Rattle.bookfit.proofs.exchange_kept.Tie as tie
 
 abbrev Inv-loop : tie.InvT-loop
-Inv-loop n key exit next count rows i₀ i = Each (λ i. Opposed (at key) (at exit) (at next) count i → ⊥) i
+Inv-loop n key exit next count rows seen₀ i₀ seen i = (i ≤ count) × (length seen ≡ 4096) × Met (at key) (at exit) (at next) (λ j. getD seen j false) i
 
 abbrev μ-loop : tie.MeasureT-loop
-μ-loop n key exit next count rows i₀ i = count - i
+μ-loop n key exit next count rows seen₀ i₀ seen i = count - i
 
 loop-holds : tie.Need-loop-holds Inv-loop μ-loop
-loop-holds c = each-start _
+loop-holds c = (omega arith, refl, met-start _ _ _ _)
 
-opposed-requires : tie.Need-opposed-requires Inv-loop μ-loop
-opposed-requires c κs = let s = c .before .before in (s .pre .0, (c .loop-test .taken, (s .pre .1 .0, s .pre .1 .1 (c .before .loop .i) (c .loop-test .taken))))
+mul-k : tie.Need-mul-k Inv-loop μ-loop
+mul-k c = search needs
+
+element-copy-out-k : tie.Need-element-copy-out-k Inv-loop μ-loop
+element-copy-out-k c = search needs
+
+element-copy-out-q : tie.Need-element-copy-out-q Inv-loop μ-loop
+element-copy-out-q c = search needs
+
+is-last-requires : tie.Need-is-last-requires Inv-loop μ-loop
+is-last-requires c κs = search needs
+
+mul-cross-slot : tie.Need-mul-cross-slot Inv-loop μ-loop
+mul-cross-slot c = search needs
+
+element-copy-out-cross-slot : tie.Need-element-copy-out-cross-slot Inv-loop μ-loop
+element-copy-out-cross-slot c = search needs
+
+cross-slot-requires : tie.Need-cross-slot-requires Inv-loop μ-loop
+cross-slot-requires c κs = search needs
+
+array-read-s : tie.Need-array-read-s Inv-loop μ-loop
+array-read-s c = search needs
+
+opposed-met-requires : tie.Need-opposed-met-requires Inv-loop μ-loop
+opposed-met-requires c κs =
+    let s = c .before .before .before .before .before .before .before .before in
+    let g = goes-by _ _ _ (c .before .before .before .is-last .ensures) (c .before .before .if1 .taken) in
+    let h = c .before .before .before .before .before .before .loop-test .taken in
+    (s .pre .0, (h, (s .pre .1 .0, (g, s .pre .1 .1 (c .before .before .before .before .before .before .before .loop .i) h g))))
 
 returns : tie.Need-returns Inv-loop μ-loop
-returns c = (λ q. absurd (not-both q refl), λ A. absurd (A .each (c .before .before .before .loop .i) (c .before .before .loop-test .taken) (c .before .opposed .ensures .0 (c .if1 .taken))))
+returns c = (λ q. absurd (not-both q refl), λ A. absurd (A .each (c .before .before .before .before .before .before .before .before .before .loop .i) (c .before .before .before .before .before .before .before .before .loop-test .taken) (c .before .opposed-met .ensures .0 (c .if2 .taken))))
+
+array-write-seen : tie.Need-array-write-seen Inv-loop μ-loop
+array-write-seen c = search needs
 
 add-i : tie.Need-add-i Inv-loop μ-loop
 add-i c = search needs
@@ -32,10 +67,21 @@ loop-less : tie.Need-loop-less Inv-loop μ-loop
 loop-less c = search needs
 
 loop-again : tie.Need-loop-again Inv-loop μ-loop
-loop-again c = each-next _ _ (c .before .before .before .loop .inv) (λ o. not-both (c .before .opposed .ensures .1 o) (c .if1 .left))
+loop-again c =
+    let s = c .before .before .before .before .before .before in
+    let l = c .before .before .before .before .before .loop in
+    let h = c .before .before .before .before .loop-test .taken in
+    let K = at (s .args .key .now) in
+    let X = at (s .args .exit .now) in
+    let N = at (s .args .next .now) in
+    ⊎-elim
+    (λ w. met-mark K X N (s .args .count) 4096 (l .i) (l .seen) (c .if1 .seen) (l .inv .1) (l .inv .2) h (omega arith)
+    (w .2 .result) (w .2 .ensures .0) (w .2 .ensures .1) (w .3 .result) (w .3 .ensures .1) (w .4 .left) (w .5))
+    (λ w. met-skip K X N (s .args .count) 4096 (l .i) (l .seen) (c .if1 .seen) (l .inv .1) (l .inv .2) h (last-by _ _ _ (c .before .is-last .ensures) (w .0 .left)) (w .1))
+    (c .if1 .came)
 
 returns-2 : tie.Need-returns-2 Inv-loop μ-loop
-returns-2 c = (λ _. each-to _ _ _ (omega arith) (c .before .loop .inv), λ _. refl)
+returns-2 c = let e : c .before .loop .i ≡ c .before .before .args .count = omega arith in (λ _. met-all _ _ _ _ (rw e at (c .before .loop .inv .2)), λ _. refl)
 
 pub exchange-kept-spec : {M : Type 1} → statement M
 exchange-kept-spec =
@@ -44,8 +90,17 @@ exchange-kept-spec =
     Inv-loop
     μ-loop
     loop-holds
-    opposed-requires
+    mul-k
+    element-copy-out-k
+    element-copy-out-q
+    is-last-requires
+    mul-cross-slot
+    element-copy-out-cross-slot
+    cross-slot-requires
+    array-read-s
+    opposed-met-requires
     returns
+    array-write-seen
     add-i
     loop-less
     loop-again

@@ -1,29 +1,13 @@
 -- A row goes against row i exactly where one of its next place's rows does, since all rows of that place stand there together.
-use mathlib.Core.Path.{refl, sym, _∙_}
 use native.Mathlib.Omega.{arith}
-use borrow.Author.Tests.{eqb-true}
-use Rattle.laws.specs.Tests.{not-both}
 use Rattle.laws.specs.Lists.{at}
-use Rattle.bookfit.specs.Marks.{goes-no}
 use Rattle.bookfit.specs.Against.{rows-within, crossed-opposed, opposed-crossed}
 use borrow.Author.Needs.{needs}
 use Rattle.bookfit.proofs.opposed.Statement.{statement}
 use Rattle.bookfit.proofs.opposed.Tie as tie
 
-mul-k : tie.Need-mul-k
-mul-k c = search needs
-
-element-copy-out-k : tie.Need-element-copy-out-k
-element-copy-out-k c = search needs
-
-element-copy-out-q : tie.Need-element-copy-out-q
-element-copy-out-q c = search needs
-
-is-last-requires : tie.Need-is-last-requires
-is-last-requires c κs = search needs
-
-returns : tie.Need-returns
-returns c = (λ q. absurd (not-both q refl), λ o. absurd (o .goes-on (eqb-true _ _ (sym (c .before .is-last .ensures) ∙ c .if1 .taken))))
+element-copy-out-place-index : tie.Need-element-copy-out-place-index
+element-copy-out-place-index c = search needs
 
 place-index-requires : tie.Need-place-index-requires
 place-index-requires c κs = search needs
@@ -55,21 +39,27 @@ mul-crossed c = search needs
 element-copy-out-crossed : tie.Need-element-copy-out-crossed
 element-copy-out-crossed c = search needs
 
+mul-crossed-2 : tie.Need-mul-crossed-2
+mul-crossed-2 c = search needs
+
+element-copy-out-crossed-2 : tie.Need-element-copy-out-crossed-2
+element-copy-out-crossed-2 c = search needs
+
 crossed-requires : tie.Need-crossed-requires
 crossed-requires c κs =
-    let s = c .before .before .before .before .before .before .before .before .before .before in
-    let within = rows-within (at (s .args .key .now)) (s .pre .1 .1 .0) (at (s .args .exit .now)) (at (s .args .next .now)) (s .args .i) (c .before .before .before .before .before .place-index .result) (c .before .before .before .row-index .result) (c .before .row-index2 .result)
-    (c .before .before .before .before .before .place-index .ensures .0) (c .before .before .before .row-index .ensures) (c .before .row-index2 .ensures) (s .pre .1 .1 .1 (goes-no _ _ _ (c .before .before .before .before .before .before .before .is-last .ensures) (c .before .before .before .before .before .before .if1 .left))) in
-    omega arith
-
-returns-2 : tie.Need-returns-2
-returns-2 c =
-    let s = c .before .before .before .before .before .before .before .before .before .before .before in
-    let g = goes-no _ _ _ (c .before .before .before .before .before .before .before .before .is-last .ensures) (c .before .before .before .before .before .before .before .if1 .left) in
+    let s = c .before .before .before .before .before .before .before .before in
     let h = c .before .before .before .before .before .before .place-index in
     let a = c .before .before .before .before .row-index in
-    let b = c .before .before .row-index2 in (
-      λ q. crossed-opposed (at (s .args .key .now)) (s .pre .1 .1 .0) (at (s .args .exit .now)) (at (s .args .next .now)) (s .args .i) (h .result) (a .result) (b .result) (h .ensures .0) (a .ensures) (b .ensures) g (s .pre .1 .1 .1 g) (c .crossed .ensures .0 q),
+    let b = c .before .before .row-index2 in
+    omega (arith, rows-within (at (s .args .key .now)) (s .pre .1 .1 .0) (at (s .args .exit .now)) (at (s .args .next .now)) (s .args .i) (h .result) (a .result) (b .result) (h .ensures .0) (a .ensures) (b .ensures) (s .pre .1 .1 .1 .1), s .pre .0)
+
+returns : tie.Need-returns
+returns c =
+    let s = c .before .before .before .before .before .before .before .before .before in
+    let h = c .before .before .before .before .before .before .before .place-index in
+    let a = c .before .before .before .before .before .row-index in
+    let b = c .before .before .before .row-index2 in (
+      λ q. crossed-opposed (at (s .args .key .now)) (s .pre .1 .1 .0) (at (s .args .exit .now)) (at (s .args .next .now)) (s .args .i) (h .result) (a .result) (b .result) (h .ensures .0) (a .ensures) (b .ensures) (s .pre .1 .1 .1 .0) (s .pre .1 .1 .1 .1) (c .crossed .ensures .0 q),
       λ o. c .crossed .ensures .1 (opposed-crossed (at (s .args .key .now)) (s .pre .1 .1 .0) (at (s .args .exit .now)) (at (s .args .next .now)) (s .args .i) (h .result) (a .result) (b .result) (h .ensures .0) (a .ensures) (b .ensures) o),
     )
 
@@ -77,11 +67,7 @@ pub opposed-spec : {M : Type 1} → statement M
 opposed-spec =
     tie.close
     (tie.spec
-    mul-k
-    element-copy-out-k
-    element-copy-out-q
-    is-last-requires
-    returns
+    element-copy-out-place-index
     place-index-requires
     mul-row-index
     element-copy-out-row-index
@@ -92,5 +78,7 @@ opposed-spec =
     row-index-requires-2
     mul-crossed
     element-copy-out-crossed
+    mul-crossed-2
+    element-copy-out-crossed-2
     crossed-requires
-    returns-2)
+    returns)

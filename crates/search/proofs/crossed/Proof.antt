@@ -1,25 +1,24 @@
 -- `search::crossed` meets its contract: no row passed goes from q to p at t, and the first that does is the answer.
 use Prim.Native.Nat.{ℕ, _-_, _≤_, _<_}
-use mathlib.Core.Path.{_≡_, sym}
+use mathlib.Core.Path.{_≡_}
 use mathlib.Core.Logic.{_⊎_, ⊎-elim}
 use native.Mathlib.Omega.{arith}
 use borrow.Author.Needs.{needs}
 use borrow.Author.Count.{below-more}
 use Rattle.laws.specs.Lists.{at}
 use Rattle.laws.specs.Tests.{not-both}
-use Rattle.flat.specs.Flat.{placeOf}
-use Rattle.flat.specs.Crossings.{array-crosses, array-clear}
+use Rattle.search.specs.Look.{NoneGoes, found-one, found-none, none-more}
 use Rattle.search.proofs.crossed.Statement.{statement}
 use Rattle.search.proofs.crossed.Tie as tie
 
 abbrev Inv-loop : tie.InvT-loop
-Inv-loop key exit next n q p t i₀ i = (i ≤ n) × ((k : ℕ) → k < i → placeOf (at key k) ≡ q → at next k ≡ p → at exit k ≡ t → ⊥)
+Inv-loop key exit next a b q p t i₀ i = (a ≤ i) × (i ≤ b) × NoneGoes key exit next a i q p t
 
 abbrev μ-loop : tie.MeasureT-loop
-μ-loop key exit next n q p t i₀ i = n - i
+μ-loop key exit next a b q p t i₀ i = b - i
 
 loop-holds : tie.Need-loop-holds Inv-loop μ-loop
-loop-holds c = (omega arith, λ k h. absurd (omega arith))
+loop-holds c = (omega arith, omega arith, λ k h g. absurd (omega arith))
 
 mul-if1 : tie.Need-mul-if1 Inv-loop μ-loop
 mul-if1 c = search needs
@@ -45,7 +44,7 @@ returns c =
     let l = c .before .before .before .before .before .before .before .loop in
     let a = s .args in
     let g = c .before .goes .ensures .0 (c .if2 .taken) in
-    sym (array-crosses (a .key .now) (a .exit .now) (a .next .now) (a .n) (a .q) (a .p) (a .t) (l .i) (c .before .before .before .before .before .before .loop-test .taken) (g .0) (g .1) (c .before .before .before .before .if1 .taken))
+    found-one (a .key .now) (a .exit .now) (a .next .now) (a .a) (a .b) (a .q) (a .p) (a .t) (l .i) (c .before .before .before .before .before .before .loop-test .taken) (record { from = g .0; to = g .1; when = c .before .before .before .before .if1 .taken })
 
 add-i : tie.Need-add-i Inv-loop μ-loop
 add-i c = search needs
@@ -59,14 +58,15 @@ loop-again c =
     let l = c .before .before .before .loop in
     let a = s .args in (
       omega arith,
-      below-more (λ k. placeOf (at (a .key .now) k) ≡ a .q → at (a .next .now) k ≡ a .p → at (a .exit .now) k ≡ a .t → ⊥) (l .i) (l .inv .1)
-          (λ x y z. ⊎-elim (λ w. not-both (w .3 .ensures .1 (x, y)) (w .4 .left)) (λ w. w .left z) (c .if1 .came)),
+      omega arith,
+      none-more (a .key .now) (a .exit .now) (a .next .now) (a .b) (a .q) (a .p) (a .t) (l .inv .2)
+          (λ k h g x. let e : k ≡ l .i = omega arith in let y = rw e at x in ⊎-elim (λ w. not-both (w .3 .ensures .1 (y .from, y .to)) (w .4 .left)) (λ w. w .left (y .when)) (c .if1 .came)),
     )
 
 returns-2 : tie.Need-returns-2 Inv-loop μ-loop
 returns-2 c =
     let a = c .before .before .args in
-    sym (array-clear (a .key .now) (a .exit .now) (a .next .now) (a .n) (a .q) (a .p) (a .t) (λ i h. c .before .loop .inv .1 i (omega arith)))
+    found-none (a .key .now) (a .exit .now) (a .next .now) (a .a) (a .b) (a .q) (a .p) (a .t) (λ i h g. c .before .loop .inv .2 i h (omega arith))
 
 pub crossed-spec : {M : Type 1} → statement M
 crossed-spec =

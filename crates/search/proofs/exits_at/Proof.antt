@@ -10,13 +10,13 @@ use Rattle.search.proofs.exits_at.Statement.{statement}
 use Rattle.search.proofs.exits_at.Tie as tie
 
 abbrev Inv-loop : tie.InvT-loop
-Inv-loop exit n t c₀ i₀ c i = (i ≤ n) × (c ≤ i) × (c ≡ 0 → (k : ℕ) → k < i → at exit k ≡ t → ⊥)
+Inv-loop exit a b t c₀ i₀ c i = (a ≤ i) × (i ≤ b) × (c ≤ i) × (c ≡ 0 → (k : ℕ) → a ≤ k → k < i → at exit k ≡ t → ⊥)
 
 abbrev μ-loop : tie.MeasureT-loop
-μ-loop exit n t c₀ i₀ c i = n - i
+μ-loop exit a b t c₀ i₀ c i = b - i
 
 loop-holds : tie.Need-loop-holds Inv-loop μ-loop
-loop-holds c = (omega arith, omega arith, λ _ k h. absurd (omega arith))
+loop-holds c = (omega arith, omega arith, omega arith, λ _ k h g. absurd (omega arith))
 
 mul-if1 : tie.Need-mul-if1 Inv-loop μ-loop
 mul-if1 c = search needs
@@ -37,14 +37,14 @@ loop-again : tie.Need-loop-again Inv-loop μ-loop
 loop-again c =
     let s = c .before .before .before .before in
     let l = c .before .before .before .loop in
-    ⊎-elim (λ w. let e = w .1 in (omega arith, omega arith, λ z. absurd (omega arith)))
-    (λ w. let e = w .1 in (omega arith, omega arith, λ z. below-more (λ k. at (s .args .exit .now) k ≡ s .args .t → ⊥) (l .i) (l .inv .2 (omega arith)) (w .0 .left)))
+    ⊎-elim (λ w. let e = w .1 in (omega arith, omega arith, omega arith, λ z. absurd (omega arith)))
+    (λ w. let e = w .1 in (omega arith, omega arith, omega arith, λ z k g h. below-more (λ k. s .args .a ≤ k → at (s .args .exit .now) k ≡ s .args .t → ⊥) (l .i) (λ k h g. l .inv .3 (omega arith) k g h) (λ _. w .0 .left) k h g))
     (c .if1 .came)
 
 returns : tie.Need-returns Inv-loop μ-loop
 returns c =
     let l = c .before .loop in
-    λ z i h. l .inv .2 z i (omega arith)
+    λ z i g h. l .inv .3 z i g (omega arith)
 
 pub exits-at-spec : {M : Type 1} → statement M
 exits-at-spec =
