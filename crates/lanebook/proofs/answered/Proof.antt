@@ -18,39 +18,30 @@ Inv-loop buf out₀ desk₀ i₀ out desk i = Taking desk₀ buf desk i × (leng
 abbrev μ-loop : tie.MeasureT-loop
 μ-loop buf out₀ desk₀ i₀ out desk i = length buf - i
 
--- src/main.rt:33:5
 loop-holds : tie.Need-loop-holds Inv-loop μ-loop
 loop-holds c = (taking-start _ _, refl)
 
--- src/main.rt:34:13
 fed-requires : tie.Need-fed-requires Inv-loop μ-loop
-fed-requires c κs = (c .before .before .loop .inv .0 .within, omega (arith, c .before .before .loop .inv .1, c .before .before .before .before .before .pre))
+fed-requires c κs = search needs
 
--- src/main.rt:37:13
 write-requires : tie.Need-write-requires Inv-loop μ-loop
 write-requires c κs = omega (arith, c .before .before .before .before .fed .ensures .fits, c .before .before .before .before .fed .ensures .long)
 
--- src/main.rt:38:13
 same-length : tie.Need-same-length Inv-loop μ-loop
 same-length c = c .before .before .before .before .before .before .fed .ensures .long ∙ c .before .before .before .before .before .before .before .before .before .loop .inv .1
 
--- src/main.rt:38:13
 returns : tie.Need-returns Inv-loop μ-loop
 returns c = took-none
 
--- src/main.rt:33:5
 loop-less : tie.Need-loop-less Inv-loop μ-loop
-loop-less c = omega (arith, c .before .before .before .before .before .before .fed .ensures .moves (omega arith), c .before .before .before .before .before .before .fed .ensures .within)
+loop-less c = omega (arith, c .before .before .before .before .before .before .fed .ensures .moves (omega (arith, c .before .before .before .before .before .before .before .before .before .loop .inv .1, c .before .before .before .before .before .before .before .before .before .before .before .before .pre)) (omega arith), c .before .before .before .before .before .before .fed .ensures .within (c .before .before .before .before .before .before .before .before .before .loop .inv .0 .within))
 
--- src/main.rt:33:5
 loop-again : tie.Need-loop-again Inv-loop μ-loop
 loop-again c = (taking-next (c .before .before .before .before .before .before .before .before .before .loop .inv .0) (c .before .before .before .before .before .before .fed .ensures), c .before .before .before .before .before .before .fed .ensures .long ∙ c .before .before .before .before .before .before .before .before .before .loop .inv .1)
 
--- src/main.rt:27:1
 same-length-2 : tie.Need-same-length-2 Inv-loop μ-loop
 same-length-2 c = c .before .loop .inv .1
 
--- src/main.rt:27:1
 returns-2 : tie.Need-returns-2 Inv-loop μ-loop
 returns-2 c = took-all (c .before .loop .inv .0) (omega arith)
 

@@ -9,27 +9,21 @@ use Rattle.lanebook.proofs.write.Lts as lts
 use Rattle.io.proofs.write_all.Reads as write-all-reads
 use Rattle.os.proofs.fail.Reads as fail-reads
 
--- src/main.rt:19:48
 slice-aggregate-write-all : tie.Need-slice-aggregate-write-all
 slice-aggregate-write-all c = sym (length-take-le _ _ (c .before .before .pre))
 
--- src/main.rt:19:9
 write-all-requires : tie.Need-write-all-requires
 write-all-requires c κs = search needs
 
--- src/main.rt:21:18
 slice-aggregate-fail : tie.Need-slice-aggregate-fail
 slice-aggregate-fail c = search needs
 
--- src/main.rt:21:9
 fail-requires : tie.Need-fail-requires
 fail-requires c κs = search needs
 
--- src/main.rt:16:1
 returns : tie.Need-returns
 returns c = search needs
 
--- src/main.rt:16:1
 returns-2 : tie.Need-returns-2
 returns-2 c = search needs
 
