@@ -6,7 +6,7 @@ use Prim.Native.Nat.{ℕ, zero, suc, _+_, _≤_, _<_}
 use mathlib.Core.Path.{_≡_, refl, sym, ap, subst, _∙_}
 use mathlib.Core.Logic.{_⊎_, inl, inr, ⊎-elim}
 use mathlib.Core.Bool.{Bool}
-use mathlib.Core.List.{List, [], List·Memᴰ}
+use mathlib.Core.List.{List, [], _∷_, List·Memᴰ}
 use native.Mathlib.Omega.{arith}
 use lib.ListN.{length}
 use Rattle.rules.specs.declared.Map.{Map}
@@ -32,9 +32,10 @@ use Rattle.keeping.specs.Books.{rows-of-book}
 use Rattle.keeping.specs.Keeping.{row-ranges, book-rows, rows-book, cancel-rows, rows-cancel}
 use Rattle.walks.specs.Walk.{Others, Walk, Walked}
 use Rattle.walks.specs.WalkLaws.{others-good, walked}
+use Rattle.theorems.specs.Program.{begins-sound, lines-sound, not-02}
 use Rattle.theorems.specs.Freed.{load-split, fewer-permit, PermittedRun, run-permitted, cancelling-next, others-next}
 use Rattle.rules.specs.Portal.{PortalPlan, PortalPage}
-use Rattle.rules.specs.Frames.{LineSays, LinesSay, allLines, begins}
+use Rattle.rules.specs.Frames.{lineOf, LineSays, LinesSay, allLines, begins}
 use Rattle.unique.specs.Unique.{no-second-plan, no-second-booking, no-second-cancelling, no-second-page, no-second-portal-plan, no-second-portal-page}
 use Rattle.unique.specs.Line.{no-second-line, no-second-lines}
 use Rattle.frames.specs.declared.Line.{Line}
@@ -217,6 +218,13 @@ a-cancellation-keeps-it-good = cancelling-good
 -- over any calls in any order, refused ones too: `Others` (walks/specs/Walk.antt) lists them
 pub the-book-is-always-good : {m : Map} {b : Book} → Others m (bookOf [] 1) b → GoodBook (mapYard m) b
 the-book-is-always-good {m} calls = others-good calls (the-empty-book-is-good (mapYard m))
+
+-- so it is in `lanebook` after any lines of input, whatever they are, and no line is ever answered with 2
+pub lanebook-keeps-it-good : {s : State} {lines : List (List ℕ)} {said : List ℕ} → LinesSay begins lines s said → GoodBook (mapYard (s .map)) (s .book)
+lanebook-keeps-it-good L = lines-sound L begins-sound .good
+
+pub lanebook-never-answers-2 : {s s′ : State} {lines : List (List ℕ)} {said line answer : List ℕ} → LinesSay begins lines s said → LineSays s line s′ answer → answer ≡ lineOf (2 ∷ []) → ⊥
+lanebook-never-answers-2 L = not-02 (lines-sound L begins-sound)
 
 -- ---- demand 3: "Take a walk over one book from the first cursor to a page that says no more .. while others plan, book and cancel between pages."
 -- `Walked` (walks/specs/Walk.antt) has its five sentences.
