@@ -67,15 +67,23 @@ impl Desk {
         }
     }
 
-    fn plan(&mut self, start: usize, destination: usize, second: u32) -> String {
+    /// The refusal of a request that names a place or a second that there is not, or is made on a bad map.
+    fn misasked(&self, start: usize, destination: usize, second: u32) -> Option<u8> {
         if !self.map.keeps_rules() {
-            return refusal(BAD_MAP);
+            return Some(BAD_MAP);
         }
         if !self.map.has_place(start) || !self.map.has_place(destination) {
-            return refusal(NOT_A_PLACE);
+            return Some(NOT_A_PLACE);
         }
         if second > DAY {
-            return refusal(LATE_SECOND);
+            return Some(LATE_SECOND);
+        }
+        None
+    }
+
+    fn plan(&mut self, start: usize, destination: usize, second: u32) -> String {
+        if let Some(number) = self.misasked(start, destination, second) {
+            return refusal(number);
         }
         match self.chosen(start, destination, second) {
             None => refusal(NO_PLAN),
@@ -87,14 +95,8 @@ impl Desk {
     }
 
     fn book(&mut self, start: usize, destination: usize, second: u32) -> String {
-        if !self.map.keeps_rules() {
-            return refusal(BAD_MAP);
-        }
-        if !self.map.has_place(start) || !self.map.has_place(destination) {
-            return refusal(NOT_A_PLACE);
-        }
-        if second > DAY {
-            return refusal(LATE_SECOND);
+        if let Some(number) = self.misasked(start, destination, second) {
+            return refusal(number);
         }
         if self.book.next_ticket > LAST_TICKET {
             return refusal(TICKETS_OUT);
