@@ -2,13 +2,12 @@
 use rules::Cursor;
 use rules::Paged;
 use rules::Planned;
-use rules::Refusal;
 ghost use mathlib.Core.Path.{_≡_};
 ghost use Prim.Native.Nat.{ℕ, _≤_, _<_};
 ghost use lib.ListN.{length};
 ghost use Rattle.laws.specs.Lists.{at};
 ghost use Rattle.rules.specs.Rows.{bit};
-ghost use Rattle.rules.specs.Answer.{number, plannedNumber, plannedArrival, plannedCount, pagedNumber, pagedCount, pagedMore};
+ghost use Rattle.rules.specs.Answer.{plannedNumber, plannedArrival, plannedCount, pagedNumber, pagedCount, pagedMore};
 ghost use Rattle.rules.specs.Portal.{oneNumber, PortalPlan, PortalPage};
 ghost use Rattle.portal.specs.Read.{MapRead, BookRead};
 
@@ -83,26 +82,6 @@ fn read_book(
     }
 }
 
-// A refusal's number in the table.
-fn number_of(r: Refusal) -> u64
-    ensures { λ n. ⌜ (n ≡ number r) × (n ≤ 12) ⌝ }
-{
-    match r {
-        Refusal::BadMap => 1,
-        Refusal::BadBook => 2,
-        Refusal::OffMap => 3,
-        Refusal::OffDay => 4,
-        Refusal::NoPlan => 5,
-        Refusal::ShortList => 6,
-        Refusal::FullBook => 7,
-        Refusal::NoTickets => 8,
-        Refusal::UnknownTicket => 9,
-        Refusal::BadSize => 10,
-        Refusal::BadCursor => 11,
-        Refusal::BadFrame => 12,
-    }
-}
-
 // A plan's answer as one number.
 fn packed_plan(p: Planned) -> u64
     requires { ⌜ plannedCount p ≤ 1844674407370955161 ⌝ }
@@ -110,7 +89,7 @@ fn packed_plan(p: Planned) -> u64
 {
     match p {
         Planned::Done(t) => (t.arrival as u64) * 2048 + (t.count as u64),
-        Planned::Refused(r) => number_of(r) * 4294967296,
+        Planned::Refused(r) => (r.number() as u64) * 4294967296,
     }
 }
 
@@ -126,7 +105,7 @@ fn packed_page(p: Paged) -> u64
             }
             s.count as u64
         }
-        Paged::Refused(r) => number_of(r) * 4294967296,
+        Paged::Refused(r) => (r.number() as u64) * 4294967296,
     }
 }
 

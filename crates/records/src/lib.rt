@@ -10,7 +10,7 @@ ghost use mathlib.Core.List.{_++_};
 ghost use Prim.Native.Nat.{_+_, _*_, _≤_};
 ghost use lib.ListN.{length, take, drop};
 ghost use Rattle.rules.specs.Rows.{cursorKey};
-ghost use Rattle.rules.specs.Answer.{plannedCount, pagedCount, PlanRecords, PageRecords};
+ghost use Rattle.rules.specs.Answer.{PlanRecords, PageRecords};
 ghost use Rattle.rules.specs.Portal.{rowIn};
 ghost use Rattle.records.specs.Reading.{RowsRead};
 ghost use Rattle.records.specs.Found.{Lent, PlanFound, PageFound};
@@ -91,15 +91,6 @@ fn read_rows(s: &[u8], count: usize) -> [Row; 1280]
     rows
 }
 
-fn planned_count(p: Planned) -> usize
-    ensures { λ n. ⌜ n ≡ plannedCount p ⌝ }
-{
-    match p {
-        Planned::Done(t) => t.count,
-        Planned::Refused(r) => 0,
-    }
-}
-
 // The plan for a caller with room for so many records.
 fn find_plan(m: Map, b: Book, start: u32, destination: u32, second: u32, room: usize) -> FoundPlan
     ensures { λ f. ⌜ PlanFound m b start destination second room f ⌝ }
@@ -107,7 +98,7 @@ fn find_plan(m: Map, b: Book, start: u32, destination: u32, second: u32, room: u
     let mut list = [0u8; 14080];
     let n = lent(room);
     let a = planning::plan(m, b, start, destination, second, &mut list[..n]);
-    let count = planned_count(a);
+    let count = a.count();
     let rows = read_rows(&list, count);
     FoundPlan {
         rows: rows,
@@ -132,15 +123,6 @@ pub fn plan_rows(
     f.answer
 }
 
-fn paged_count(p: Paged) -> usize
-    ensures { λ n. ⌜ n ≡ pagedCount p ⌝ }
-{
-    match p {
-        Paged::Done(s) => s.count,
-        Paged::Refused(r) => 0,
-    }
-}
-
 // The page for a caller with room for so many records.
 fn find_page(m: Map, b: Book, size: u32, c: Cursor, room: usize) -> FoundPage
     ensures { λ f. ⌜ PageFound m b size (cursorKey c) room f ⌝ }
@@ -148,7 +130,7 @@ fn find_page(m: Map, b: Book, size: u32, c: Cursor, room: usize) -> FoundPage
     let mut list = [0u8; 14080];
     let n = lent(room);
     let a = paging::page(m, b, size, c, &mut list[..n]);
-    let count = paged_count(a);
+    let count = a.count();
     let rows = read_rows(&list, count);
     FoundPage {
         rows: rows,

@@ -6,14 +6,13 @@ use rules::Map;
 use rules::Paged;
 use rules::Place;
 use rules::Planned;
-use rules::Refusal;
 use rules::Row;
 ghost use mathlib.Core.Path.{_≡_};
 ghost use mathlib.Core.Bool.{true};
 ghost use Prim.Native.Nat.{_≤_};
 ghost use lib.ListN.{take, drop};
 ghost use Rattle.rules.specs.Rows.{cursorKey};
-ghost use Rattle.rules.specs.Answer.{PlanRecords, PageRecords, number, plannedNumber, plannedArrival, plannedCount, pagedNumber, pagedCount, pagedMore};
+ghost use Rattle.rules.specs.Answer.{PlanRecords, PageRecords};
 ghost use Rattle.cases.specs.Barn.{barnMap};
 ghost use Rattle.records_show.specs.Shown.{marks, planned, paged, bothBook, PlanOn, PageOn};
 
@@ -262,80 +261,6 @@ fn same_rows(a: [Row; 8], b: [Row; 8]) -> bool
     true
 }
 
-// A refusal's number in the table.
-fn number_of(r: Refusal) -> u64
-    ensures { λ n. ⌜ n ≡ number r ⌝ }
-{
-    match r {
-        Refusal::BadMap => 1,
-        Refusal::BadBook => 2,
-        Refusal::OffMap => 3,
-        Refusal::OffDay => 4,
-        Refusal::NoPlan => 5,
-        Refusal::ShortList => 6,
-        Refusal::FullBook => 7,
-        Refusal::NoTickets => 8,
-        Refusal::UnknownTicket => 9,
-        Refusal::BadSize => 10,
-        Refusal::BadCursor => 11,
-        Refusal::BadFrame => 12,
-    }
-}
-
-fn plan_number(p: Planned) -> u64
-    ensures { λ n. ⌜ n ≡ plannedNumber p ⌝ }
-{
-    match p {
-        Planned::Done(t) => 0,
-        Planned::Refused(r) => number_of(r),
-    }
-}
-
-fn plan_arrival(p: Planned) -> u32
-    ensures { λ n. ⌜ n ≡ plannedArrival p ⌝ }
-{
-    match p {
-        Planned::Done(t) => t.arrival,
-        Planned::Refused(r) => 0,
-    }
-}
-
-fn plan_count(p: Planned) -> usize
-    ensures { λ n. ⌜ n ≡ plannedCount p ⌝ }
-{
-    match p {
-        Planned::Done(t) => t.count,
-        Planned::Refused(r) => 0,
-    }
-}
-
-fn page_number(p: Paged) -> u64
-    ensures { λ n. ⌜ n ≡ pagedNumber p ⌝ }
-{
-    match p {
-        Paged::Done(s) => 0,
-        Paged::Refused(r) => number_of(r),
-    }
-}
-
-fn page_count(p: Paged) -> usize
-    ensures { λ n. ⌜ n ≡ pagedCount p ⌝ }
-{
-    match p {
-        Paged::Done(s) => s.count,
-        Paged::Refused(r) => 0,
-    }
-}
-
-fn page_more(p: Paged) -> bool
-    ensures { λ t. ⌜ t ≡ pagedMore p ⌝ }
-{
-    match p {
-        Paged::Done(s) => s.more,
-        Paged::Refused(r) => false,
-    }
-}
-
 // From 0 to 3 at second 10, with the first n of eight records lent.
 fn plan_into(n: usize) -> PlanShown
     requires { ⌜ n ≤ 8 ⌝ }
@@ -360,12 +285,12 @@ fn page_into(n: usize) -> PageShown
 }
 
 // One line: how many records were lent, the number returned and the count.
-fn say(n: usize, code: u64, count: usize) {
+fn say(n: usize, code: u8, count: usize) {
     let space = [b' '];
     let end = [b'\n'];
     io::print_decimal(1, n as u64);
     io::write_all(1, &space);
-    io::print_decimal(1, code);
+    io::print_decimal(1, code as u64);
     io::write_all(1, &space);
     io::print_decimal(1, count as u64);
     io::write_all(1, &end);
@@ -378,8 +303,8 @@ fn check_plan(n: usize)
     let s = plan_into(n);
     let rows = s.rows;
     let a = s.answer;
-    let code = plan_number(a);
-    let count = plan_count(a);
+    let code = a.number();
+    let count = a.count();
     say(n, code, count);
     if n < 3 {
         check::expect(same_rows(rows, marked()));
@@ -388,7 +313,7 @@ fn check_plan(n: usize)
     }
     check::expect(same_rows(rows, planned_rows()));
     check::expect(code == 0);
-    check::expect(plan_arrival(a) == 60);
+    check::expect(a.arrival() == 60);
     check::expect(count == 3);
 }
 
@@ -399,8 +324,8 @@ fn check_page(n: usize)
     let s = page_into(n);
     let rows = s.rows;
     let a = s.answer;
-    let code = page_number(a);
-    let count = page_count(a);
+    let code = a.number();
+    let count = a.count();
     say(n, code, count);
     if n < 2 {
         check::expect(same_rows(rows, marked()));
@@ -410,7 +335,7 @@ fn check_page(n: usize)
     check::expect(same_rows(rows, paged_rows()));
     check::expect(code == 0);
     check::expect(count == 2);
-    check::expect(page_more(a));
+    check::expect(a.more());
 }
 
 fn main() {

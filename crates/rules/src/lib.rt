@@ -2,6 +2,7 @@
 // What they mean stands in specs/.
 ghost use mathlib.Core.Path.{_≡_};
 ghost use Rattle.rules.specs.Rows.{cursorKey, rowKey, firstKey, lessb};
+ghost use Rattle.rules.specs.Answer.{number, plannedNumber, plannedArrival, plannedCount, pagedNumber, pagedCount, pagedMore};
 
 pub struct Place {
     pub capacity: u8,
@@ -124,6 +125,28 @@ pub enum Refusal {
     BadFrame,
 }
 
+impl Refusal {
+    // Its number in the table.
+    pub fn number(self) -> u8
+        ensures { λ n. ⌜ n ≡ number self ⌝ }
+    {
+        match self {
+            Refusal::BadMap => 1,
+            Refusal::BadBook => 2,
+            Refusal::OffMap => 3,
+            Refusal::OffDay => 4,
+            Refusal::NoPlan => 5,
+            Refusal::ShortList => 6,
+            Refusal::FullBook => 7,
+            Refusal::NoTickets => 8,
+            Refusal::UnknownTicket => 9,
+            Refusal::BadSize => 10,
+            Refusal::BadCursor => 11,
+            Refusal::BadFrame => 12,
+        }
+    }
+}
+
 pub struct Trip {
     pub arrival: u32,
     pub count: usize,
@@ -132,6 +155,38 @@ pub struct Trip {
 pub enum Planned {
     Done(Trip),
     Refused(Refusal),
+}
+
+impl Planned {
+    // 0, or the refusal's number.
+    pub fn number(self) -> u8
+        ensures { λ n. ⌜ n ≡ plannedNumber self ⌝ }
+    {
+        match self {
+            Planned::Done(_) => 0,
+            Planned::Refused(r) => r.number(),
+        }
+    }
+
+    // 0 at a refusal.
+    pub fn arrival(self) -> u32
+        ensures { λ n. ⌜ n ≡ plannedArrival self ⌝ }
+    {
+        match self {
+            Planned::Done(t) => t.arrival,
+            Planned::Refused(_) => 0,
+        }
+    }
+
+    // How many rows were written, 0 at a refusal.
+    pub fn count(self) -> usize
+        ensures { λ n. ⌜ n ≡ plannedCount self ⌝ }
+    {
+        match self {
+            Planned::Done(t) => t.count,
+            Planned::Refused(_) => 0,
+        }
+    }
 }
 
 pub struct Issued {
@@ -169,6 +224,38 @@ pub struct Shown {
 pub enum Paged {
     Done(Shown),
     Refused(Refusal),
+}
+
+impl Paged {
+    // 0, or the refusal's number.
+    pub fn number(self) -> u8
+        ensures { λ n. ⌜ n ≡ pagedNumber self ⌝ }
+    {
+        match self {
+            Paged::Done(_) => 0,
+            Paged::Refused(r) => r.number(),
+        }
+    }
+
+    // How many rows were written, 0 at a refusal.
+    pub fn count(self) -> usize
+        ensures { λ n. ⌜ n ≡ pagedCount self ⌝ }
+    {
+        match self {
+            Paged::Done(s) => s.count,
+            Paged::Refused(_) => 0,
+        }
+    }
+
+    // Whether the book has more rows after them, false at a refusal.
+    pub fn more(self) -> bool
+        ensures { λ t. ⌜ t ≡ pagedMore self ⌝ }
+    {
+        match self {
+            Paged::Done(s) => s.more,
+            Paged::Refused(_) => false,
+        }
+    }
 }
 
 // What `lanebook` keeps between frames.

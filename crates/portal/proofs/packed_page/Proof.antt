@@ -32,8 +32,11 @@ returns c =
 enum-known-p-2 : tie.Need-enum-known-p-2
 enum-known-p-2 c = search needs
 
-number-of-requires : tie.Need-number-of-requires
-number-of-requires c κs = search needs
+number-requires : tie.Need-number-requires
+number-requires c κs = search needs
+
+cast-result : tie.Need-cast-result
+cast-result c = search needs
 
 mul-result : tie.Need-mul-result
 mul-result c = search needs
@@ -47,7 +50,7 @@ returns-2 c =
 returns-3 : tie.Need-returns-3
 returns-3 c =
     let e = ap whole (c .before .before .p2 .given .1) in
-    omega (arith, c .number-of .ensures .0)
+    omega (arith, c .number .ensures)
 
 pub packed-page-spec : {M : Type 1} → statement M
 packed-page-spec =
@@ -57,7 +60,8 @@ packed-page-spec =
     add-result
     returns
     enum-known-p-2
-    number-of-requires
+    number-requires
+    cast-result
     mul-result
     returns-2
     returns-3)

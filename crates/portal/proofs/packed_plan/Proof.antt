@@ -30,8 +30,11 @@ add-result c =
 enum-known-p-2 : tie.Need-enum-known-p-2
 enum-known-p-2 c = search needs
 
-number-of-requires : tie.Need-number-of-requires
-number-of-requires c κs = search needs
+number-requires : tie.Need-number-requires
+number-requires c κs = search needs
+
+cast-result-2 : tie.Need-cast-result-2
+cast-result-2 c = search needs
 
 mul-result-2 : tie.Need-mul-result-2
 mul-result-2 c = search needs
@@ -42,7 +45,7 @@ returns c = let e = ap whole (c .before .before .p .given .1) in omega arith
 returns-2 : tie.Need-returns-2
 returns-2 c =
     let e = ap whole (c .before .before .p2 .given .1) in
-    omega (arith, c .number-of .ensures .0)
+    omega (arith, c .number .ensures)
 
 pub packed-plan-spec : {M : Type 1} → statement M
 packed-plan-spec =
@@ -53,7 +56,8 @@ packed-plan-spec =
     mul-result
     add-result
     enum-known-p-2
-    number-of-requires
+    number-requires
+    cast-result-2
     mul-result-2
     returns
     returns-2)

@@ -26,8 +26,8 @@ slice-aggregate-plan c = lent-length (c .before .lent .ensures) list long
 plan-requires : tie.Need-plan-requires
 plan-requires c κs = search needs
 
-planned-count-requires : tie.Need-planned-count-requires
-planned-count-requires c κs = search needs
+count-requires : tie.Need-count-requires
+count-requires c κs = search needs
 
 slice-aggregate-read-rows : tie.Need-slice-aggregate-read-rows
 slice-aggregate-read-rows c =
@@ -37,12 +37,12 @@ slice-aggregate-read-rows c =
 read-rows-requires : tie.Need-read-rows-requires
 read-rows-requires c κs =
     let f = c .before .before .before .plan in
-    plan-readable (c .before .before .before .before .before .lent .ensures) list long (f .ensures) (c .before .planned-count .ensures) (f .kept .1 .1 .1 .1 .1 .0)
+    plan-readable (c .before .before .before .before .before .lent .ensures) list long (f .ensures) (c .before .count .ensures) (f .kept .1 .1 .1 .1 .1 .0)
 
 returns : tie.Need-returns
 returns c =
     plan-front (c .before .before .before .before .before .before .lent .ensures) list long (c .before .before .before .before .plan .ensures)
-    (c .before .before .planned-count .ensures) (c .read-rows .ensures)
+    (c .before .before .count .ensures) (c .read-rows .ensures)
 
 pub find-plan-spec : {M : Type 1} → statement M
 find-plan-spec =
@@ -52,7 +52,7 @@ find-plan-spec =
     array-borrow-prefix-list
     slice-aggregate-plan
     plan-requires
-    planned-count-requires
+    count-requires
     slice-aggregate-read-rows
     read-rows-requires
     returns)

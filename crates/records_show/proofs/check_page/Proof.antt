@@ -8,11 +8,11 @@ use Rattle.records_show.proofs.check_page.Tie as tie
 page-into-requires : tie.Need-page-into-requires
 page-into-requires c κs = search needs
 
-page-number-requires : tie.Need-page-number-requires
-page-number-requires c κs = search needs
+number-requires : tie.Need-number-requires
+number-requires c κs = search needs
 
-page-count-requires : tie.Need-page-count-requires
-page-count-requires c κs = search needs
+count-requires : tie.Need-count-requires
+count-requires c κs = search needs
 
 say-requires : tie.Need-say-requires
 say-requires c κs = search needs
@@ -27,7 +27,7 @@ expect-requires : tie.Need-expect-requires
 expect-requires c κs = c .same-rows .ensures .1 (c .before .before .before .before .before .before .before .page-into .ensures .short-rows (c .before .before .if1 .taken) ∙ sym (c .before .marked .ensures))
 
 expect-requires-2 : tie.Need-expect-requires-2
-expect-requires-2 c κs = eq-eqb _ _ (c .before .before .before .before .before .before .page-number .ensures ∙ c .before .before .before .before .before .before .before .before .page-into .ensures .short-code (c .before .before .before .if1 .taken))
+expect-requires-2 c κs = eq-eqb _ _ (c .before .before .before .before .before .before .number .ensures ∙ c .before .before .before .before .before .before .before .before .page-into .ensures .short-code (c .before .before .before .if1 .taken))
 
 returns : tie.Need-returns
 returns c = search needs
@@ -42,16 +42,16 @@ expect-requires-3 : tie.Need-expect-requires-3
 expect-requires-3 c κs = c .same-rows2 .ensures .1 (c .before .before .before .before .before .before .before .page-into .ensures .rows-are (c .before .before .if1 .left) ∙ sym (c .before .paged-rows .ensures))
 
 expect-requires-4 : tie.Need-expect-requires-4
-expect-requires-4 c κs = eq-eqb _ _ (c .before .before .before .before .before .before .page-number .ensures ∙ c .before .before .before .before .before .before .before .before .page-into .ensures .code (c .before .before .before .if1 .left))
+expect-requires-4 c κs = eq-eqb _ _ (c .before .before .before .before .before .before .number .ensures ∙ c .before .before .before .before .before .before .before .before .page-into .ensures .code (c .before .before .before .if1 .left))
 
 expect-requires-5 : tie.Need-expect-requires-5
-expect-requires-5 c κs = eq-eqb _ _ (c .before .before .before .before .before .before .page-count .ensures ∙ c .before .before .before .before .before .before .before .before .before .page-into .ensures .counts (c .before .before .before .before .if1 .left))
+expect-requires-5 c κs = eq-eqb _ _ (c .before .before .before .before .before .before .count .ensures ∙ c .before .before .before .before .before .before .before .before .before .page-into .ensures .counts (c .before .before .before .before .if1 .left))
 
-page-more-requires : tie.Need-page-more-requires
-page-more-requires c κs = search needs
+more-requires : tie.Need-more-requires
+more-requires c κs = search needs
 
 expect-requires-6 : tie.Need-expect-requires-6
-expect-requires-6 c κs = c .page-more .ensures ∙ c .before .before .before .before .before .before .before .before .before .before .before .page-into .ensures .more (c .before .before .before .before .before .before .if1 .left)
+expect-requires-6 c κs = c .more .ensures ∙ c .before .before .before .before .before .before .before .before .before .before .before .page-into .ensures .more (c .before .before .before .before .before .before .if1 .left)
 
 returns-2 : tie.Need-returns-2
 returns-2 c = search needs
@@ -61,8 +61,8 @@ check-page-spec =
     tie.close
     (tie.spec
     page-into-requires
-    page-number-requires
-    page-count-requires
+    number-requires
+    count-requires
     say-requires
     marked-requires
     same-rows-requires
@@ -74,6 +74,6 @@ check-page-spec =
     expect-requires-3
     expect-requires-4
     expect-requires-5
-    page-more-requires
+    more-requires
     expect-requires-6
     returns-2)

@@ -8,11 +8,11 @@ use Rattle.records_show.proofs.check_plan.Tie as tie
 plan-into-requires : tie.Need-plan-into-requires
 plan-into-requires c κs = search needs
 
-plan-number-requires : tie.Need-plan-number-requires
-plan-number-requires c κs = search needs
+number-requires : tie.Need-number-requires
+number-requires c κs = search needs
 
-plan-count-requires : tie.Need-plan-count-requires
-plan-count-requires c κs = search needs
+count-requires : tie.Need-count-requires
+count-requires c κs = search needs
 
 say-requires : tie.Need-say-requires
 say-requires c κs = search needs
@@ -27,7 +27,7 @@ expect-requires : tie.Need-expect-requires
 expect-requires c κs = c .same-rows .ensures .1 (c .before .before .before .before .before .before .before .plan-into .ensures .short-rows (c .before .before .if1 .taken) ∙ sym (c .before .marked .ensures))
 
 expect-requires-2 : tie.Need-expect-requires-2
-expect-requires-2 c κs = eq-eqb _ _ (c .before .before .before .before .before .before .plan-number .ensures ∙ c .before .before .before .before .before .before .before .before .plan-into .ensures .short-code (c .before .before .before .if1 .taken))
+expect-requires-2 c κs = eq-eqb _ _ (c .before .before .before .before .before .before .number .ensures ∙ c .before .before .before .before .before .before .before .before .plan-into .ensures .short-code (c .before .before .before .if1 .taken))
 
 returns : tie.Need-returns
 returns c = search needs
@@ -42,16 +42,16 @@ expect-requires-3 : tie.Need-expect-requires-3
 expect-requires-3 c κs = c .same-rows2 .ensures .1 (c .before .before .before .before .before .before .before .plan-into .ensures .rows-are (c .before .before .if1 .left) ∙ sym (c .before .planned-rows .ensures))
 
 expect-requires-4 : tie.Need-expect-requires-4
-expect-requires-4 c κs = eq-eqb _ _ (c .before .before .before .before .before .before .plan-number .ensures ∙ c .before .before .before .before .before .before .before .before .plan-into .ensures .code (c .before .before .before .if1 .left))
+expect-requires-4 c κs = eq-eqb _ _ (c .before .before .before .before .before .before .number .ensures ∙ c .before .before .before .before .before .before .before .before .plan-into .ensures .code (c .before .before .before .if1 .left))
 
-plan-arrival-requires : tie.Need-plan-arrival-requires
-plan-arrival-requires c κs = search needs
+arrival-requires : tie.Need-arrival-requires
+arrival-requires c κs = search needs
 
 expect-requires-5 : tie.Need-expect-requires-5
-expect-requires-5 c κs = eq-eqb _ _ (c .plan-arrival .ensures ∙ c .before .before .before .before .before .before .before .before .before .before .plan-into .ensures .arrives (c .before .before .before .before .before .if1 .left))
+expect-requires-5 c κs = eq-eqb _ _ (c .arrival .ensures ∙ c .before .before .before .before .before .before .before .before .before .before .plan-into .ensures .arrives (c .before .before .before .before .before .if1 .left))
 
 expect-requires-6 : tie.Need-expect-requires-6
-expect-requires-6 c κs = eq-eqb _ _ (c .before .before .before .before .before .before .before .before .plan-count .ensures ∙ c .before .before .before .before .before .before .before .before .before .before .before .plan-into .ensures .counts (c .before .before .before .before .before .before .if1 .left))
+expect-requires-6 c κs = eq-eqb _ _ (c .before .before .before .before .before .before .before .before .count .ensures ∙ c .before .before .before .before .before .before .before .before .before .before .before .plan-into .ensures .counts (c .before .before .before .before .before .before .if1 .left))
 
 returns-2 : tie.Need-returns-2
 returns-2 c = search needs
@@ -61,8 +61,8 @@ check-plan-spec =
     tie.close
     (tie.spec
     plan-into-requires
-    plan-number-requires
-    plan-count-requires
+    number-requires
+    count-requires
     say-requires
     marked-requires
     same-rows-requires
@@ -73,7 +73,7 @@ check-plan-spec =
     same-rows-requires-2
     expect-requires-3
     expect-requires-4
-    plan-arrival-requires
+    arrival-requires
     expect-requires-5
     expect-requires-6
     returns-2)
