@@ -3,6 +3,7 @@
 use Prim.Native.Nat.{ℕ, zero, suc, _+_, _-_, _*_, _/_, _%_, _≤_, _<_}
 use mathlib.Core.Path.{_≡_, refl, sym, ap, _∙_}
 use mathlib.Core.Logic.{⊎-elim}
+use mathlib.Core.Bool.{Bool, true, false}
 use mathlib.Core.List.{List, [], _∷_, _++_, append-assoc}
 use native.Mathlib.Omega.{arith}
 use native.Mathlib.Numerals.{add-one}
@@ -163,6 +164,16 @@ kindOf Book = 4
 kindOf Cancel = 5
 kindOf Page = 6
 kindOf Nothing = 0
+
+-- whether its frames change map or book
+abbrev pub changesBy : Decoder → Bool
+changesBy Place = true
+changesBy Link = true
+changesBy Plan = false
+changesBy Book = true
+changesBy Cancel = true
+changesBy Page = false
+changesBy Nothing = false
 
 pub record FormIs (kind : ℕ) (f : Form) : Type 0 where
   pub length : f .length ≡ frameLength kind

@@ -71,10 +71,6 @@ put-answer-requires c κs =
     let f = page-few (c .before .before .before .before .before .page .ensures) in
     ((c .before .before .before .page-head .ensures .fits, c .before .before .before .page-head .ensures .long), (omega (arith, c .before .before .page-rows .ensures), omega (arith, c .before .before .page-rows .ensures)))
 
--- src/lib.rt:594:9
-closed-with-requires : tie.Need-closed-with-requires
-closed-with-requires c κs = search needs
-
 -- src/lib.rt:467:1
 same-length : tie.Need-same-length
 same-length c = search needs
@@ -82,10 +78,15 @@ same-length c = search needs
 -- src/lib.rt:467:1
 returns : tie.Need-returns
 returns c =
-    let k : length (c .before .before .before .before .before .before .before .before .before .page .last .1 .1 .1 .1 .0) ≡ 14080 = c .before .before .before .before .before .before .before .before .before .page .kept .1 .1 .1 .1 .0 in
-    let f = page-few (c .before .before .before .before .before .before .before .before .before .page .ensures) in
-    rw (c .closed-with .ensures)
-    (page-frame (c .before .before .before .before .before .before .before .before .before .before .before .before .before .before .before .before .before .before .before .before .before .before .args .s) (c .before .before .before .before .before .before .before .before .before .before .before .before .before .before .before .before .before .before .before .before .before .before .args .b .now) (c .before .before .before .before .before .before .before .page-head .result) (c .before .before .before .before .before .before .before .before .before .page .result) (c .before .before .before .before .before .before .before .before .before .page .last .1 .1 .1 .1 .0) (c .before .before .before .before .before .before .page-rows .result) (c .before .before .before .before .before .before .before .before .before .before .before .before .before .before .before .before .before .wide .ensures) (c .before .before .before .before .before .before .before .before .before .before .before .before .before .before .before .wide2 .ensures) (c .before .before .before .before .before .before .before .before .before .before .before .before .before .three .ensures .0) (c .before .before .before .before .before .before .before .before .before .before .before .three2 .ensures .0) (c .before .before .before .before .before .before .before .before .before .page .ensures) (omega (arith, c .before .before .before .before .before .before .page-rows .ensures)) k (c .before .before .before .before .before .before .page-rows .ensures) (c .before .before .before .before .before .before .before .page-head .ensures) (c .before .before .before .put-answer .ensures))
+    let a = c .before .before .before .before .before .before .before .before .before .before .before .before .before .before .before .before .before .before .before .before .before .args in
+    let p = c .before .before .before .before .before .before .before .before .page in
+    let h = c .before .before .before .before .before .before .page-head in
+    let n = c .before .before .before .before .before .page-rows in
+    let k : length (p .last .1 .1 .1 .1 .0) ≡ 14080 = p .kept .1 .1 .1 .1 .0 in
+    let f = page-few (p .ensures) in
+    page-frame (a .s) (a .b .now) (h .result) (p .result) (p .last .1 .1 .1 .1 .0) (n .result)
+    (c .before .before .before .before .before .before .before .before .before .before .before .before .before .before .before .before .wide .ensures) (c .before .before .before .before .before .before .before .before .before .before .before .before .before .before .wide2 .ensures) (c .before .before .before .before .before .before .before .before .before .before .before .before .three .ensures .0) (c .before .before .before .before .before .before .before .before .before .before .three2 .ensures .0)
+    (p .ensures) (omega (arith, n .ensures)) k (n .ensures) (h .ensures) (c .before .before .put-answer .ensures)
 
 pub page-frame-spec : {M : Type 1} → statement M
 page-frame-spec =
@@ -103,6 +104,5 @@ page-frame-spec =
     page-rows-requires
     slice-aggregate-put-answer
     put-answer-requires
-    closed-with-requires
     same-length
     returns)

@@ -67,10 +67,6 @@ put-answer-requires c κs =
     let f = plan-few (c .before .before .before .before .before .plan .ensures) (length-replicate {A = ℕ} 14080 0) in
     ((c .before .before .before .plan-head .ensures .fits, c .before .before .before .plan-head .ensures .long), (omega (arith, c .before .before .plan-rows .ensures), omega (arith, c .before .before .plan-rows .ensures)))
 
--- src/lib.rt:524:9
-closed-with-requires : tie.Need-closed-with-requires
-closed-with-requires c κs = search needs
-
 -- src/lib.rt:415:1
 same-length : tie.Need-same-length
 same-length c = search needs
@@ -78,10 +74,15 @@ same-length c = search needs
 -- src/lib.rt:415:1
 returns : tie.Need-returns
 returns c =
-    let k : length (c .before .before .before .before .before .before .before .before .before .plan .last .1 .1 .1 .1 .1 .0) ≡ 14080 = c .before .before .before .before .before .before .before .before .before .plan .kept .1 .1 .1 .1 .1 .0 in
-    let f = plan-few (c .before .before .before .before .before .before .before .before .before .plan .ensures) (length-replicate {A = ℕ} 14080 0) in
-    rw (c .closed-with .ensures)
-    (plan-frame (c .before .before .before .before .before .before .before .before .before .before .before .before .before .before .before .before .before .before .before .before .args .s) (c .before .before .before .before .before .before .before .before .before .before .before .before .before .before .before .before .before .before .before .before .args .b .now) (c .before .before .before .before .before .before .before .plan-head .result) (c .before .before .before .before .before .before .before .before .before .plan .result) (c .before .before .before .before .before .before .before .before .before .plan .last .1 .1 .1 .1 .1 .0) (c .before .before .before .before .before .before .plan-rows .result) (c .before .before .before .before .before .before .before .before .before .before .before .before .before .before .before .wide .ensures) (c .before .before .before .before .before .before .before .before .before .before .before .before .before .wide2 .ensures) (c .before .before .before .before .before .before .before .before .before .before .before .three .ensures .0) (c .before .before .before .before .before .before .before .before .before .plan .ensures) (omega (arith, c .before .before .before .before .before .before .plan-rows .ensures)) k (c .before .before .before .before .before .before .plan-rows .ensures) (c .before .before .before .before .before .before .before .plan-head .ensures) (c .before .before .before .put-answer .ensures))
+    let a = c .before .before .before .before .before .before .before .before .before .before .before .before .before .before .before .before .before .before .before .args in
+    let p = c .before .before .before .before .before .before .before .before .plan in
+    let h = c .before .before .before .before .before .before .plan-head in
+    let n = c .before .before .before .before .before .plan-rows in
+    let k : length (p .last .1 .1 .1 .1 .1 .0) ≡ 14080 = p .kept .1 .1 .1 .1 .1 .0 in
+    let f = plan-few (p .ensures) (length-replicate {A = ℕ} 14080 0) in
+    plan-frame (a .s) (a .b .now) (h .result) (p .result) (p .last .1 .1 .1 .1 .1 .0) (n .result)
+    (c .before .before .before .before .before .before .before .before .before .before .before .before .before .before .wide .ensures) (c .before .before .before .before .before .before .before .before .before .before .before .before .wide2 .ensures) (c .before .before .before .before .before .before .before .before .before .before .three .ensures .0)
+    (p .ensures) (omega (arith, n .ensures)) k (n .ensures) (h .ensures) (c .before .before .put-answer .ensures)
 
 pub plan-frame-spec : {M : Type 1} → statement M
 plan-frame-spec =
@@ -98,6 +99,5 @@ plan-frame-spec =
     plan-rows-requires
     slice-aggregate-put-answer
     put-answer-requires
-    closed-with-requires
     same-length
     returns)
