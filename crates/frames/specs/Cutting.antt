@@ -1,15 +1,15 @@
 -- Input cut into lines. What a run of input makes of a desk, and prints, is what its whole lines say one after the other; a run behind another goes on
 -- from the line that the first leaves begun. So however the input is cut into reads, all of it together answers all its lines.
-use Prim.Native.Nat.{ℕ, zero, suc, _+_, _-_, _*_, _≤_, _<_}
-use mathlib.Core.Path.{_≡_, refl, sym, ap, ap₂, subst, _∙_}
+use Prim.Native.Nat.{ℕ, _+_, _-_, _*_, _≤_, _<_}
+use mathlib.Core.Path.{_≡_, refl, sym, ap, subst, _∙_}
 use mathlib.Core.Bool.{Bool, true, false}
 use mathlib.Core.Logic.{⊎-elim}
 use mathlib.Core.List.{List, [], _∷_, _++_, append-assoc, append-nil}
 use native.Mathlib.Omega.{arith}
 use native.Mathlib.Numerals.{add-one}
-use lib.ListN.{length, getD, take, drop, length-append, length-take, length-drop, take-append-drop}
+use lib.ListN.{length, getD, take, drop, length-append, length-drop, take-append-drop}
 use lib.Dec.{eqb}
-use lib.Seq.{slice, slice-empty, length-slice, take-suc, drop-append-le, length-take-le, take-take, take-all, drop-length, drop-drop}
+use lib.Seq.{slice, slice-empty, take-suc, drop-append-le, length-take-le, take-take, take-all, drop-length, drop-drop}
 use borrow.Rule.Slice.PartMut.{putMid}
 use borrow.Author.Tests.{eq-eqb, ne-eqb}
 use Rattle.laws.specs.Order.{lt-or-ge}

@@ -1,6 +1,6 @@
 -- A line in a fixed buffer of 18 digits, and the bytes read from it. No frame has more than 18 digits, so a longer line need not be kept.
 -- Two digits a turn give a byte; where a digit is none, or their number is odd, the line is the digits of no bytes.
-use Prim.Native.Nat.{ℕ, zero, suc, _+_, _-_, _*_, _/_, _%_, _≤_, _<_}
+use Prim.Native.Nat.{ℕ, suc, _+_, _*_, _/_, _%_, _≤_, _<_}
 use mathlib.Core.Path.{_≡_, refl, sym, ap, _∙_}
 use mathlib.Core.Logic.{⊎-elim}
 use mathlib.Core.Bool.{Bool, true, false}
@@ -10,7 +10,6 @@ use native.Mathlib.Numerals.{add-one}
 use lib.ListN.{length, getD, take, set, length-append, length-set}
 use lib.Seq.{take-suc, take-suc-set, getD-set-same, getD-set-other, getD-take, length-take-le}
 use Rattle.laws.specs.Order.{eq-or-ne}
-use Rattle.laws.specs.Lists.{zeros}
 use Rattle.rules.specs.Portal.{byteAt}
 use Rattle.rules.specs.Frames.{digit, hexOf, frameLength}
 use Rattle.unique.specs.Hex.{Value, AreBytes, hex-length, hex-append, hex-at-high, hex-at-low}

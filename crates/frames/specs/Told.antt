@@ -1,16 +1,14 @@
 -- What a function that answers leaves: the answer's bytes at the front of the caller's list, their number, and the rest as it was.
 use Prim.Native.Nat.{ℕ, _+_, _*_, _≤_}
-use mathlib.Core.Path.{_≡_, refl, sym, ap, ap₂, _∙_}
+use mathlib.Core.Path.{_≡_, refl, sym, ap₂, _∙_}
 use mathlib.Core.Bool.{Bool}
-use mathlib.Core.List.{List, [], _∷_, _++_}
+use mathlib.Core.List.{List, [], _++_}
 use native.Mathlib.Omega.{arith}
 use lib.ListN.{length, take, drop, length-append}
 use Rattle.rules.specs.declared.State.{State}
 use Rattle.rules.specs.Frames.{lineOf, rowLines}
 use Rattle.frames.specs.declared.Told.{Told}
-use Rattle.frames.specs.declared.Head.{Head}
 use Rattle.frames.specs.Put.{Put, RowsPut, put-more, put-front, put-rest, line-long, rows-long}
-use Rattle.frames.specs.Heads.{HeadIs}
 
 -- these bytes, so many of them
 pub record Answers (said was out : List ℕ) (len : ℕ) : Type 0 where
