@@ -635,7 +635,7 @@ fn page_frame(s: State, b: &[u8; 9], out: &mut [u8]) -> usize
     put_answer(h, &list, rows, out)
 }
 
-// What a line that changes map or book makes of the state.
+// What a line that changes map or book makes of the state; the decoders of other lines are not given here.
 fn order(s: State, w: Word, out: &mut [u8]) -> Told
     requires { ⌜ 30000 ≤ length (now out) ⌝ }
     ensures { λ r. ⌜ OrderIs s w (now (out .entry)) (now (out .exit)) r ⌝ }
@@ -671,6 +671,7 @@ fn no_frame(s: State, out: &mut [u8]) -> Asked
     }
 }
 
+// The decoders of lines that change map or book are not given here.
 fn ask(s: State, w: Word, out: &mut [u8]) -> Asked
     requires { ⌜ 30000 ≤ length (now out) ⌝ }
     ensures { λ r. ⌜ AskedIs s w (now (out .entry)) (now (out .exit)) r ⌝ }
@@ -769,7 +770,7 @@ pub struct Intake {
     pub len: usize,
 }
 
-// The answers of the lines that the bytes from an index on end, as long as the caller's list has room for one more.
+// A line that leaves map and book as they are copies neither. An answer takes a byte or more of the input.
 fn feed(d: Desk, buf: &[u8], from: usize, out: &mut [u8]) -> Intake
     ensures { λ r. ⌜ FeedIs d (now (buf .entry)) from (now (out .entry)) (now (out .exit)) r ⌝ }
 {
@@ -828,6 +829,7 @@ fn feed(d: Desk, buf: &[u8], from: usize, out: &mut [u8]) -> Intake
     }
 }
 
+// The answers of the lines that the bytes from an index on end, as long as the caller's list has room for one more.
 pub fn fed(d: Desk, buf: &[u8], from: usize, out: &mut [u8]) -> Intake
     ensures { λ r. ⌜ FedIs d (now (buf .entry)) from (now (out .entry)) (now (out .exit)) r ⌝ }
 {
