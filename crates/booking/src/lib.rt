@@ -4,6 +4,7 @@ use rules::Booked;
 use rules::Booking;
 use rules::Cancelled;
 use rules::Cancelling;
+use rules::Cursor;
 use rules::Issued;
 use rules::Map;
 use rules::Refusal;
@@ -73,7 +74,7 @@ fn survey(
     )
 }
 
-// The rows of a path under a ticket put into the book, one after the other.
+// The rows of a path under a ticket put into the book, one after the other: the rows above a new one move up, the last first.
 fn enter_rows(
     b: Book,
     dur: &[u32; 256],
@@ -91,7 +92,24 @@ fn enter_rows(
     let mut k: usize = 0;
     while k < count {
         let r = planner::step_at(dur, place, label, path, count, k, ticket);
-        out = ledger::insert(out, r);
+        let p = r.place as u32;
+        let key = Cursor {
+            place: p,
+            entry: r.entry,
+            ticket: r.ticket,
+        };
+        let n = out.count;
+        let mut j = n;
+        while 0 < j {
+            let x = out.rows[j - 1];
+            if !key.before(x) {
+                break;
+            }
+            out.rows[j] = x;
+            j -= 1;
+        }
+        out.rows[j] = r;
+        out.count = n + 1;
         k += 1;
     }
     out

@@ -26,21 +26,16 @@ pub record InRange (r : Row) : Type 0 where
   pub exit : r .exit ≤ day
   pub ticket : r .ticket < ticketLimit
 
--- "Slots past the count hold zeros."
-abbrev pub SpareZero : Book → Type 0
-SpareZero b = (i : ℕ) → b .count ≤ i → i < 1024 → rowAt (b .rows) i ≡ noRow
-
--- the rows in the arrays, and what the answer r tells
-pub record RowsFlat (b : Book) (K X N : List ℕ) (r : Bool) : Type 0 where
+-- the rows in the arrays
+pub record RowsFlat (b : Book) (K X N : List ℕ) : Type 0 where
   pub packed : Packed K X
-  pub rows : r ≡ true → rowsIn K X N (b .count) ≡ rowsOf b
-  pub fits : r ≡ true → b .count ≤ 1024
-  pub bad : r ≡ false → (Y : Yard) → GoodBook Y b → ⊥
+  pub rows : rowsIn K X N (b .count) ≡ rowsOf b
+  pub fits : b .count ≤ 1024
   pub len-key : length K ≡ 1024
   pub len-exit : length X ≡ 1024
   pub len-next : length N ≡ 1024
 
--- the same of the whole book: with the answer true it is well formed exactly when the rows in the arrays are
+-- the whole book, and what the answer r tells: with the answer true it is well formed exactly when the rows in the arrays are
 pub record BookFlat (b : Book) (K X N : List ℕ) (r : Bool) : Type 0 where
   pub packed : Packed K X
   pub fits : r ≡ true → b .count ≤ 1024
@@ -123,73 +118,81 @@ module _ (b : Book) where
 
   module _ (l : length (b .rows) ≡ 1024) {K X N : List ℕ} where
     -- all rows are written
-    pub rows-all : RowsTo b K X N (b .count) → b .count ≤ 1024 → RowsFlat b K X N true
+    pub rows-all : RowsTo b K X N (b .count) → b .count ≤ 1024 → RowsFlat b K X N
     rows-all P h = record {
       packed = P .packed;
-      rows = λ _.
+      rows =
           table-take (b .count) (λ i. rowOf (at K i) (at X i) (at N i)) (b .rows) noRow (omega arith)
           (λ i g. rw (P .keys i g, P .exits i g, P .nexts i g) (row-told (rowAt (b .rows) i) (P .ranges i g)));
-      fits = λ _. h;
-      bad = λ q. absurd (not-both refl q);
+      fits = h;
       len-key = P .len-key;
       len-exit = P .len-exit;
       len-next = P .len-next;
     }
 
-    refused : {n : ℕ} → RowsTo b K X N n → ((Y : Yard) → GoodBook Y b → ⊥) → RowsFlat b K X N false
+    refused : {n : ℕ} → RowsTo b K X N n → ((Y : Yard) → GoodBook Y b → ⊥) → BookFlat b K X N false
     refused P bad = record {
       packed = P .packed;
-      rows = λ q. absurd (not-both q refl);
       fits = λ q. absurd (not-both q refl);
-      bad = λ _. bad;
+      rows = λ q. absurd (not-both q refl);
+      good = λ q. absurd (not-both q refl);
+      formed = λ Y G. absurd (bad Y G);
       len-key = P .len-key;
       len-exit = P .len-exit;
       len-next = P .len-next;
     }
 
     -- a row is out of range
-    pub rows-bad : {n : ℕ} → RowsTo b K X N n → (i : ℕ) → i < b .count → (InRange (rowAt (b .rows) i) → ⊥) → RowsFlat b K X N false
+    pub rows-bad : {n : ℕ} → RowsTo b K X N n → (i : ℕ) → i < b .count → (InRange (rowAt (b .rows) i) → ⊥) → BookFlat b K X N false
     rows-bad P i h f = refused P (λ Y G. f (good-range Y b l G i h))
 
     -- the count is out of range
-    pub rows-many : {n : ℕ} → RowsTo b K X N n → 1024 < b .count → RowsFlat b K X N false
+    pub rows-many : {n : ℕ} → RowsTo b K X N n → 1024 < b .count → BookFlat b K X N false
     rows-many P h = refused P (λ Y G. omega (arith, G .fits))
 
 -- ---- the loop over the slots past the count
 
--- those before slot i hold zeros
-pub record ZeroTo (b : Book) (i : ℕ) : Type 0 where
+-- the rows are in the arrays, and the slots before slot i hold zeros
+pub record ZeroTo (b : Book) (K X N : List ℕ) (i : ℕ) : Type 0 where
+  pub flat : RowsFlat b K X N
+  pub past : b .count ≤ i
   pub zeros : (k : ℕ) → b .count ≤ k → k < i → rowAt (b .rows) k ≡ noRow
 
-pub zero-none : (b : Book) → ZeroTo b (b .count)
-zero-none b = record { zeros = λ k a h. absurd (omega arith) }
+module _ (b : Book) {K X N : List ℕ} where
+  pub zero-none : RowsFlat b K X N → ZeroTo b K X N (b .count)
+  zero-none F = record { flat = F; past = omega arith; zeros = λ k a h. absurd (omega arith) }
 
-pub zero-next : (b : Book) (i : ℕ) → ZeroTo b i → rowAt (b .rows) i ≡ noRow → ZeroTo b (i + 1)
-zero-next b i Z e = record { zeros = λ k a h. below-more (λ j. b .count ≤ j → rowAt (b .rows) j ≡ noRow) i (λ j h c. Z .zeros j c h) (λ _. e) k h a }
+  pub zero-next : {i : ℕ} → ZeroTo b K X N i → rowAt (b .rows) i ≡ noRow → ZeroTo b K X N (i + 1)
+  zero-next {i} Z e = record {
+    flat = Z .flat;
+    past = omega (arith, Z .past);
+    zeros = λ k a h. below-more (λ j. b .count ≤ j → rowAt (b .rows) j ≡ noRow) i (λ j h c. Z .zeros j c h) (λ _. e) k h a;
+  }
 
--- ---- the whole book
-
-module _ {b : Book} {K X N : List ℕ} {r : Bool} (F : RowsFlat b K X N r) where
-  pub book-bad : r ≡ false → BookFlat b K X N false
-  book-bad e = record {
-    packed = F .packed;
-    fits = λ q. absurd (not-both q refl);
-    rows = λ q. absurd (not-both q refl);
+  -- a slot past the count is used
+  pub spare-bad : {i : ℕ} → ZeroTo b K X N i → i < 1024 → (rowAt (b .rows) i ≡ noRow → ⊥) → BookFlat b K X N false
+  spare-bad {i} Z h f = record {
+    packed = Z .flat .packed;
+    fits = λ _. Z .flat .fits;
+    rows = λ _. Z .flat .rows;
     good = λ q. absurd (not-both q refl);
-    formed = λ Y G. absurd (F .bad e Y G);
-    len-key = F .len-key;
-    len-exit = F .len-exit;
-    len-next = F .len-next;
+    formed = λ Y G. absurd (f (G .spare i (Z .past) h));
+    len-key = Z .flat .len-key;
+    len-exit = Z .flat .len-exit;
+    len-next = Z .flat .len-next;
   }
 
-  pub book-told : r ≡ true → (s : Bool) → (s ≡ true → SpareZero b) × (SpareZero b → s ≡ true) → BookFlat b K X N s
-  book-told e s S = record {
-    packed = F .packed;
-    fits = λ _. F .fits e;
-    rows = λ _. F .rows e;
-    good = λ q Y W. record { fits = F .fits e; spare = S .0 q; formed = subst (λ rows. WellFormed Y rows (b .«next_ticket»)) (F .rows e) W };
-    formed = λ Y G. (S .1 (G .spare), subst (λ rows. WellFormed Y rows (b .«next_ticket»)) (sym (F .rows e)) (G .formed));
-    len-key = F .len-key;
-    len-exit = F .len-exit;
-    len-next = F .len-next;
-  }
+  -- none is
+  pub spare-all : ZeroTo b K X N 1024 → BookFlat b K X N true
+  spare-all Z =
+      let F = Z .flat in
+      record {
+        packed = F .packed;
+        fits = λ _. F .fits;
+        rows = λ _. F .rows;
+        good = λ _ Y W. record { fits = F .fits; spare = Z .zeros; formed = subst (λ rows. WellFormed Y rows (b .«next_ticket»)) (F .rows) W };
+        formed = λ Y G. (refl, subst (λ rows. WellFormed Y rows (b .«next_ticket»)) (sym (F .rows)) (G .formed));
+        len-key = F .len-key;
+        len-exit = F .len-exit;
+        len-next = F .len-next;
+      }

@@ -21,6 +21,13 @@ pub record BookRead (b : Book) (K X N : List ℕ) (count : ℕ) : Type 0 where
   pub whole : read ≡ true → count ≡ b .count
   pub none : read ≡ false → count ≡ 1025
 
+module _ {b : Book} {K X N : List ℕ} where
+  pub read-all : BookFlat b K X N true → BookRead b K X N (b .count)
+  read-all F = record { read = true; flat = F; whole = λ _. refl; none = λ q. absurd (not-both refl q) }
+
+  pub read-none : BookFlat b K X N false → BookRead b K X N 1025
+  read-none F = record { read = false; flat = F; whole = λ q. absurd (not-both q refl); none = λ _. refl }
+
 module _ {b : Book} {K X N : List ℕ} {count : ℕ} (R : BookRead b K X N count) where
   -- 1,025 rows are too many
   pub read-true : (Y : Yard) → WellFormed Y (rowsIn K X N count) (b .«next_ticket») → R .read ≡ true

@@ -4,14 +4,14 @@ use rules::Map;
 use rules::Row;
 ghost use mathlib.Core.Path.{_≡_};
 ghost use mathlib.Core.Bool.{true, false};
-ghost use Prim.Native.Nat.{ℕ, _≤_, _<_};
+ghost use Prim.Native.Nat.{ℕ, _<_};
 ghost use lib.ListN.{length};
 ghost use Rattle.laws.specs.Lists.{at};
 ghost use Rattle.rules.specs.Rows.{noRow};
 ghost use Rattle.flat.specs.Flat.{keyOf};
 ghost use Rattle.flatten.specs.Maps.{PlacesFlat, LinksFlat};
 ghost use Rattle.flatten.specs.Read.{BookRead};
-ghost use Rattle.flatten.specs.Books.{InRange, SpareZero, RowsFlat, BookFlat};
+ghost use Rattle.flatten.specs.Books.{InRange};
 
 // capacity and duration of each place
 pub fn flat_places(m: Map, cap: &mut [u8; 256], dur: &mut [u32; 256])
@@ -63,39 +63,6 @@ fn row_key(r: Row) -> u64
     (r.place as u64) * 281474976710656 + (r.entry as u64) * 16777216 + (r.ticket as u64)
 }
 
-// key, exit and next place of each row that the count names; false where the count or a row is out of range
-pub fn flat_rows(
-    b: Book,
-    key: &mut [u64; 1024],
-    exit: &mut [u32; 1024],
-    next: &mut [u8; 1024],
-) -> bool
-    requires { ⌜ length (now key) ≡ 1024 ⌝ }
-    requires { ⌜ length (now exit) ≡ 1024 ⌝ }
-    requires { ⌜ length (now next) ≡ 1024 ⌝ }
-    requires { ⌜ ((i : ℕ) → at (now key) i ≡ 0) ⌝ }
-    requires { ⌜ ((i : ℕ) → at (now exit) i ≡ 0) ⌝ }
-    requires { ⌜ ((i : ℕ) → at (now next) i ≡ 0) ⌝ }
-    ensures { λ r. ⌜ RowsFlat b (now (key .exit)) (now (exit .exit)) (now (next .exit)) r ⌝ }
-{
-    let n = b.count;
-    if n > 1024 {
-        return false;
-    }
-    let mut i = 0;
-    while i < n {
-        let r = b.rows[i];
-        if !row_in_range(r) {
-            return false;
-        }
-        key[i] = row_key(r);
-        exit[i] = r.exit;
-        next[i] = r.next;
-        i += 1;
-    }
-    true
-}
-
 // all fields zero
 fn is_zero(r: Row) -> bool
     ensures { λ t. ⌜ (t ≡ true → r ≡ noRow) × (r ≡ noRow → t ≡ true) ⌝ }
@@ -115,43 +82,6 @@ fn is_zero(r: Row) -> bool
     r.next == 0
 }
 
-// the slots past the count hold zeros
-pub fn spare_zero(b: Book) -> bool
-    requires { ⌜ b .count ≤ 1024 ⌝ }
-    ensures { λ r. ⌜ (r ≡ true → SpareZero b) × (SpareZero b → r ≡ true) ⌝ }
-{
-    let mut i = b.count;
-    while i < 1024 {
-        let r = b.rows[i];
-        if !is_zero(r) {
-            return false;
-        }
-        i += 1;
-    }
-    true
-}
-
-// The book's rows as arrays; false where it cannot be well formed, whatever the map.
-pub fn flat_book(
-    b: Book,
-    key: &mut [u64; 1024],
-    exit: &mut [u32; 1024],
-    next: &mut [u8; 1024],
-) -> bool
-    requires { ⌜ length (now key) ≡ 1024 ⌝ }
-    requires { ⌜ length (now exit) ≡ 1024 ⌝ }
-    requires { ⌜ length (now next) ≡ 1024 ⌝ }
-    requires { ⌜ ((i : ℕ) → at (now key) i ≡ 0) ⌝ }
-    requires { ⌜ ((i : ℕ) → at (now exit) i ≡ 0) ⌝ }
-    requires { ⌜ ((i : ℕ) → at (now next) i ≡ 0) ⌝ }
-    ensures { λ r. ⌜ BookFlat b (now (key .exit)) (now (exit .exit)) (now (next .exit)) r ⌝ }
-{
-    if !flat_rows(b, key, exit, next) {
-        return false;
-    }
-    spare_zero(b)
-}
-
 // The book's rows in the arrays: their count, and 1,025, which no book has, where the book is not one.
 pub fn read_book(
     b: Book,
@@ -167,8 +97,27 @@ pub fn read_book(
     requires { ⌜ ((i : ℕ) → at (now next) i ≡ 0) ⌝ }
     ensures { λ r. ⌜ BookRead b (now (key .exit)) (now (exit .exit)) (now (next .exit)) r ⌝ }
 {
-    if flat_book(b, key, exit, next) {
-        return b.count;
+    let n = b.count;
+    if n > 1024 {
+        return 1025;
     }
-    1025
+    let mut i = 0;
+    while i < n {
+        let r = b.rows[i];
+        if !row_in_range(r) {
+            return 1025;
+        }
+        key[i] = row_key(r);
+        exit[i] = r.exit;
+        next[i] = r.next;
+        i += 1;
+    }
+    while i < 1024 {
+        let r = b.rows[i];
+        if !is_zero(r) {
+            return 1025;
+        }
+        i += 1;
+    }
+    n
 }

@@ -1,23 +1,46 @@
--- The line's bytes, its kind's length and decoder, and what the decoder's own function answers: together what the line answers.
-use Prim.Native.Nat.{ℕ, _+_, _≤_, _<_}
-use mathlib.Core.Path.{_≡_, refl, sym, ap, _∙_}
+-- A line read: its bytes, its kind's length and decoder, and what the decoder's own function answers, together what the line answers.
+use Prim.Native.Nat.{ℕ, _≤_}
+use mathlib.Core.Path.{_≡_, sym, ap, _∙_}
+use mathlib.Core.Bool.{true, false}
 use mathlib.Core.List.{List, [], _∷_}
 use native.Mathlib.Omega.{arith}
+use Rattle.laws.specs.Tests.{not-both}
 use Rattle.rules.specs.declared.State.{State}
 use Rattle.rules.specs.Portal.{byteAt}
 use Rattle.rules.specs.Frames.{lineOf, frameLength, Said, PlaceFrame, LinkFrame, PlanFrame, BookFrame, CancelFrame, PageFrame}
 use Rattle.frames.specs.declared.Line.{Line}
 use Rattle.frames.specs.declared.Told.{Told}
+use Rattle.frames.specs.declared.Asked.{Asked}
 use Rattle.frames.specs.declared.Form.{Form}
+use Rattle.frames.specs.declared.Word.{Word}
 use Rattle.frames.specs.declared.Decoder.{Decoder}
 use Rattle.frames.specs.declared.Decoder.the-variants.{Place, Link, Plan, Book, Cancel, Page, Nothing}
-use Rattle.frames.specs.Lines.{kindOf, FormIs}
-use Rattle.frames.specs.Told.{Spoken, spoken-so}
+use Rattle.frames.specs.Lines.{kindOf, changesBy, FormIs}
+use Rattle.frames.specs.Told.{Spoken, kept}
 use Rattle.frames.specs.Saying.{Tells, Reads, no-frame, other-length, framed-so, place-says, link-says, plan-says, book-says, cancel-says, page-says}
 
-pub none-answers : (s : State) (l : Line) (bytes : List ℕ) (n : ℕ) {was out : List ℕ} {r : Told} → Reads l bytes n → n ≡ 0
-    → Spoken (Said s (lineOf (12 ∷ []))) was out r → Spoken (Tells s l) was out r
-none-answers s l bytes n D z S = spoken-so (λ s′ said x. no-frame z D x) S
+-- what a line read tells: with each decoder, what its own function answers is what the line answers
+pub record WordIs (l : Line) (w : Word) : Type 0 where
+  pub nothing : w .decoder ≡ Nothing → (s s′ : State) (said : List ℕ) → Said s (lineOf (12 ∷ [])) s′ said → Tells s l s′ said
+  pub place : w .decoder ≡ Place → (s s′ : State) (said : List ℕ) → PlaceFrame s (w .bytes) s′ said → Tells s l s′ said
+  pub link : w .decoder ≡ Link → (s s′ : State) (said : List ℕ) → LinkFrame s (w .bytes) s′ said → Tells s l s′ said
+  pub plan : w .decoder ≡ Plan → (s s′ : State) (said : List ℕ) → PlanFrame s (w .bytes) s′ said → Tells s l s′ said
+  pub book : w .decoder ≡ Book → (s s′ : State) (said : List ℕ) → BookFrame s (w .bytes) s′ said → Tells s l s′ said
+  pub cancel : w .decoder ≡ Cancel → (s s′ : State) (said : List ℕ) → CancelFrame s (w .bytes) s′ said → Tells s l s′ said
+  pub page : w .decoder ≡ Page → (s s′ : State) (said : List ℕ) → PageFrame s (w .bytes) s′ said → Tells s l s′ said
+
+-- a line that is no frame
+pub no-word : (l : Line) (bytes : List ℕ) → ((s s′ : State) (said : List ℕ) → Said s (lineOf (12 ∷ [])) s′ said → Tells s l s′ said)
+    → WordIs l (record { bytes = bytes; decoder = Nothing })
+no-word l bytes f = record {
+  nothing = λ _. f;
+  place = λ e. absurd (omega (arith, ap kindOf e));
+  link = λ e. absurd (omega (arith, ap kindOf e));
+  plan = λ e. absurd (omega (arith, ap kindOf e));
+  book = λ e. absurd (omega (arith, ap kindOf e));
+  cancel = λ e. absurd (omega (arith, ap kindOf e));
+  page = λ e. absurd (omega (arith, ap kindOf e));
+}
 
 -- the kind and the number of bytes that a decoder has
 module _ (bytes : List ℕ) (n : ℕ) (f : Form) (some : 1 ≤ n) (F : FormIs (byteAt bytes 0) f) (fits : f .length ≡ n) where
@@ -32,50 +55,39 @@ module _ (bytes : List ℕ) (n : ℕ) (f : Form) (some : 1 ≤ n) (F : FormIs (b
   unfolding frameLength
   some-decoder e = let x = count-is Nothing e in omega arith
 
-module _ (s : State) (l : Line) (bytes : List ℕ) (n : ℕ) (f : Form) {was out : List ℕ} {r : Told}
-    (D : Reads l bytes n) (some : 1 ≤ n) (F : FormIs (byteAt bytes 0) f) where
-  pub other-answers : (f .length ≡ n → ⊥) → Spoken (Said s (lineOf (12 ∷ []))) was out r → Spoken (Tells s l) was out r
-  other-answers g S = spoken-so (λ s′ said x. other-length some (λ e. g (F .length ∙ sym e)) D x) S
+module _ {l : Line} {bytes : List ℕ} {n : ℕ} (D : Reads l bytes n) where
+  pub word-none : n ≡ 0 → WordIs l (record { bytes = bytes; decoder = Nothing })
+  word-none z = no-word l bytes (λ s s′ said x. no-frame z D x)
 
-  module _ (fits : f .length ≡ n) where
-    pub place-answers : f .decoder ≡ Place → Spoken (PlaceFrame s bytes) was out r → Spoken (Tells s l) was out r
-    unfolding frameLength
-    place-answers e S =
-        spoken-so
-        (λ s′ said x. framed-so some (sym fits ∙ F .length) D (place-says s bytes n s′ said (kind-is bytes n f some F fits Place e) (count-is bytes n f some F fits Place e) x))
-        S
+  module _ {f : Form} (some : 1 ≤ n) (F : FormIs (byteAt bytes 0) f) where
+    pub word-other : (f .length ≡ n → ⊥) → WordIs l (record { bytes = bytes; decoder = Nothing })
+    word-other g = no-word l bytes (λ s s′ said x. other-length some (λ e. g (F .length ∙ sym e)) D x)
 
-    pub link-answers : f .decoder ≡ Link → Spoken (LinkFrame s bytes) was out r → Spoken (Tells s l) was out r
+    pub word-framed : f .length ≡ n → WordIs l (record { bytes = bytes; decoder = f .decoder })
     unfolding frameLength
-    link-answers e S =
-        spoken-so
-        (λ s′ said x. framed-so some (sym fits ∙ F .length) D (link-says s bytes n s′ said (kind-is bytes n f some F fits Link e) (count-is bytes n f some F fits Link e) x))
-        S
+    word-framed fits = record {
+      nothing = λ e. absurd (some-decoder bytes n f some F fits e);
+      place = λ e s s′ said x. framed-so some (sym fits ∙ F .length) D (place-says s bytes n s′ said (kind-is bytes n f some F fits Place e) (count-is bytes n f some F fits Place e) x);
+      link = λ e s s′ said x. framed-so some (sym fits ∙ F .length) D (link-says s bytes n s′ said (kind-is bytes n f some F fits Link e) (count-is bytes n f some F fits Link e) x);
+      plan = λ e s s′ said x. framed-so some (sym fits ∙ F .length) D (plan-says s bytes n s′ said (kind-is bytes n f some F fits Plan e) (count-is bytes n f some F fits Plan e) x);
+      book = λ e s s′ said x. framed-so some (sym fits ∙ F .length) D (book-says s bytes n s′ said (kind-is bytes n f some F fits Book e) (count-is bytes n f some F fits Book e) x);
+      cancel = λ e s s′ said x. framed-so some (sym fits ∙ F .length) D (cancel-says s bytes n s′ said (kind-is bytes n f some F fits Cancel e) (count-is bytes n f some F fits Cancel e) x);
+      page = λ e s s′ said x. framed-so some (sym fits ∙ F .length) D (page-says s bytes n s′ said (kind-is bytes n f some F fits Page e) (count-is bytes n f some F fits Page e) x);
+    }
 
-    pub plan-answers : f .decoder ≡ Plan → Spoken (PlanFrame s bytes) was out r → Spoken (Tells s l) was out r
-    unfolding frameLength
-    plan-answers e S =
-        spoken-so
-        (λ s′ said x. framed-so some (sym fits ∙ F .length) D (plan-says s bytes n s′ said (kind-is bytes n f some F fits Plan e) (count-is bytes n f some F fits Plan e) x))
-        S
+-- ---- what a line answers
 
-    pub book-answers : f .decoder ≡ Book → Spoken (BookFrame s bytes) was out r → Spoken (Tells s l) was out r
-    unfolding frameLength
-    book-answers e S =
-        spoken-so
-        (λ s′ said x. framed-so some (sym fits ∙ F .length) D (book-says s bytes n s′ said (kind-is bytes n f some F fits Book e) (count-is bytes n f some F fits Book e) x))
-        S
+-- a line that changes map or book
+abbrev pub OrderIs : State → Word → List ℕ → List ℕ → Told → Type 0
+OrderIs s w was out r = changesBy (w .decoder) ≡ true → (l : Line) → WordIs l w → Spoken (Tells s l) was out r
 
-    pub cancel-answers : f .decoder ≡ Cancel → Spoken (CancelFrame s bytes) was out r → Spoken (Tells s l) was out r
-    unfolding frameLength
-    cancel-answers e S =
-        spoken-so
-        (λ s′ said x. framed-so some (sym fits ∙ F .length) D (cancel-says s bytes n s′ said (kind-is bytes n f some F fits Cancel e) (count-is bytes n f some F fits Cancel e) x))
-        S
+-- one that leaves them as they are
+abbrev pub AskedIs : State → Word → List ℕ → List ℕ → Asked → Type 0
+AskedIs s w was out r = changesBy (w .decoder) ≡ false → (l : Line) → WordIs l w → Spoken (Tells s l) was out (kept s (r .closed) (r .len))
 
-    pub page-answers : f .decoder ≡ Page → Spoken (PageFrame s bytes) was out r → Spoken (Tells s l) was out r
-    unfolding frameLength
-    page-answers e S =
-        spoken-so
-        (λ s′ said x. framed-so some (sym fits ∙ F .length) D (page-says s bytes n s′ said (kind-is bytes n f some F fits Page e) (count-is bytes n f some F fits Page e) x))
-        S
+-- each of the two leaves the other's lines out
+pub no-order : {d e : Decoder} → d ≡ e → changesBy e ≡ false → changesBy d ≡ true → ⊥
+no-order p q r = not-both (sym (ap changesBy p) ∙ r) q
+
+pub no-question : {d e : Decoder} → d ≡ e → changesBy e ≡ true → changesBy d ≡ false → ⊥
+no-question p q r = not-both q (sym (ap changesBy p) ∙ r)

@@ -1,15 +1,15 @@
 -- Input cut into lines. What a run of input makes of a desk, and prints, is what its whole lines say one after the other; a run behind another goes on
 -- from the line that the first leaves begun. So however the input is cut into reads, all of it together answers all its lines.
-use Prim.Native.Nat.{ℕ, zero, suc, _+_, _-_, _*_, _≤_, _<_}
-use mathlib.Core.Path.{_≡_, refl, sym, ap, ap₂, subst, _∙_}
+use Prim.Native.Nat.{ℕ, _+_, _-_, _*_, _≤_, _<_}
+use mathlib.Core.Path.{_≡_, refl, sym, ap, subst, _∙_}
 use mathlib.Core.Bool.{Bool, true, false}
 use mathlib.Core.Logic.{⊎-elim}
 use mathlib.Core.List.{List, [], _∷_, _++_, append-assoc, append-nil}
 use native.Mathlib.Omega.{arith}
 use native.Mathlib.Numerals.{add-one}
-use lib.ListN.{length, getD, take, drop, length-append, length-take, length-drop, take-append-drop}
+use lib.ListN.{length, getD, take, drop, length-append, length-drop, take-append-drop}
 use lib.Dec.{eqb}
-use lib.Seq.{slice, slice-empty, length-slice, take-suc, drop-append-le, length-take-le, take-take, take-all, drop-length, drop-drop}
+use lib.Seq.{slice, slice-empty, take-suc, drop-append-le, length-take-le, take-take, take-all, drop-length, drop-drop}
 use borrow.Rule.Slice.PartMut.{putMid}
 use borrow.Author.Tests.{eq-eqb, ne-eqb}
 use Rattle.laws.specs.Order.{lt-or-ge}
@@ -24,7 +24,7 @@ use Rattle.frames.specs.declared.Intake.{Intake}
 use Rattle.frames.specs.declared.Told.{Told}
 use Rattle.frames.specs.Lines.{LineIs}
 use Rattle.frames.specs.Put.{Put, put-none, put-more, put-front, put-rest}
-use Rattle.frames.specs.Told.{Spoken, Silent, spoken-so}
+use Rattle.frames.specs.Told.{Spoken, Silent}
 use Rattle.frames.specs.Saying.{Tells}
 
 -- ---- lines, cut one run after another
@@ -258,6 +258,8 @@ pub record Feeding (d : Desk) (buf : List ℕ) (from : ℕ) (was : List ℕ) (e 
   -- before the first step nothing is said, and a step needs bytes and room
   pub still : i ≡ from → (e ≡ d) × (at ≡ 0)
   pub went : from < i → (30000 ≤ length was) × (from < length buf)
+  -- a step takes a byte or more
+  pub few : at ≤ 30000 * (i - from)
 
 pub feeding-start : (d : Desk) (buf : List ℕ) (from : ℕ) (was : List ℕ) → Feeding d buf from was d from 0 was
 feeding-start d buf from was = record {
@@ -270,6 +272,7 @@ feeding-start d buf from was = record {
   within = λ h. h;
   still = λ _. (refl, refl);
   went = λ h. absurd (omega arith);
+  few = omega arith;
 }
 
 pub feeding-next : {d e : Desk} {buf was mid out : List ℕ} {from i at : ℕ} {r : Intake} → Feeding d buf from was e i at mid → i < length buf → at + 30000 ≤ length was
@@ -290,6 +293,7 @@ feeding-next {d} {e} {buf} {was} {mid} {out} {from} {i} {at} {r} F h room S =
       within = λ _. S .within;
       still = λ g. absurd (omega (arith, F .after));
       went = λ _. (omega arith, omega (arith, F .after));
+      few = omega (arith, F .few, F .after, S .short);
     }
 
 -- how far the bytes are taken, and what is then in the list
@@ -326,6 +330,15 @@ fed-is {d} {e} {buf} {was} {out} {from} {i} {at} F stop = record {
       (lt-or-ge from i);
 }
 
+-- the same, and that an answer takes a byte or more of the input
+pub record FeedIs (d : Desk) (buf : List ℕ) (from : ℕ) (was out : List ℕ) (r : Intake) : Type 0 where
+  pub fed : FedIs d buf from was out r
+  pub few : r .len ≤ 30000 * (r .upto - from)
+
+pub feed-is : {d e : Desk} {buf was out : List ℕ} {from i at : ℕ} → Feeding d buf from was e i at out → (i < length buf → length was < at + 30000)
+    → FeedIs d buf from was out (record { desk = e; upto = i; len = at })
+feed-is F stop = record { fed = fed-is F stop; few = F .few }
+
 -- ---- the last line, where it lacks its line feed
 
 abbrev pub Ends : Desk → State → List ℕ → Type 0
@@ -344,22 +357,39 @@ nothing-begun d was e = record {
   long = refl;
 }
 
-some-line : {s s′ : State} {said : List ℕ} (line : List ℕ) → 1 ≤ length line → LineSays s line s′ said → LinesSay s (lastLine line) s′ said
+-- a line feed more ends it
+some-line : {s s′ : State} {said : List ℕ} (line : List ℕ) → 1 ≤ length line → LinesSay s (line ∷ []) s′ said → LinesSay s (lastLine line) s′ said
 some-line [] h x = absurd (omega arith)
-some-line (c ∷ line) h x = lines-one x
+some-line (c ∷ line) h x = x
 
-pub line-begun : (d : Desk) {was out : List ℕ} {r : Told} → length (d .line .digits) ≡ 18 → (d .line .len ≡ 0 → ⊥) → Spoken (Tells (d .state) (d .line)) was out r
-    → Spoken (Ends d) was out r
-line-begun d n f S = spoken-so (λ s said x line L. some-line line (long line L) (x line L)) S
-  where
-    long : (line : List ℕ) → LineIs line (d .line) → 1 ≤ length line
-    long line L = ⊎-elim
-        (λ (a : 18 < d .line .len). omega (arith, L .long a))
-        (λ (a : d .line .len ≤ 18). let e = ap length (L .short a) ∙ length-take-le (d .line .len) (d .line .digits) (omega arith) in above (d .line .len) f e)
-        (lt-or-ge 18 (d .line .len))
-      where
-        above : (x : ℕ) → (x ≡ 0 → ⊥) → length line ≡ x → 1 ≤ length line
-        above x g e = omega arith
+module _ (d : Desk) {was out : List ℕ} {r : Intake} (F : FeedIs d (10 ∷ []) 0 was out r) where
+  pub feed-silent : length was < 30000 → Silent (d .state) was out (record { state = r .desk .state; len = r .len })
+  feed-silent h =
+      let x = F .fed .stays (λ k _. omega arith) in
+      record { stays = ap (λ (e : Desk). e .state) (x .0); none = x .2; same = rw (x .2) at (F .fed .kept) }
+
+  pub feed-ended : 30000 ≤ length was → length (d .line .digits) ≡ 18 → (d .line .len ≡ 0 → ⊥) → Spoken (Ends d) was out (record { state = r .desk .state; len = r .len })
+  feed-ended h n f =
+      let m = F .fed .moves h (omega arith) in
+      let w = F .fed .within (omega arith) in
+      let u : r .upto ≡ 1 = omega arith in
+      record {
+        says = λ line L.
+            let x = F .fed .feeds .says line L in
+            some-line line (long line L) (rw (u, whole-feed line 10 refl) at x);
+        kept = F .fed .kept;
+        fits = omega (arith, F .few);
+        long = F .fed .long;
+      }
+    where
+      long : (line : List ℕ) → LineIs line (d .line) → 1 ≤ length line
+      long line L = ⊎-elim
+          (λ (a : 18 < d .line .len). omega (arith, L .long a))
+          (λ (a : d .line .len ≤ 18). let e = ap length (L .short a) ∙ length-take-le (d .line .len) (d .line .digits) (omega arith) in above (d .line .len) f e)
+          (lt-or-ge 18 (d .line .len))
+        where
+          above : (x : ℕ) → (x ≡ 0 → ⊥) → length line ≡ x → 1 ≤ length line
+          above x g e = omega arith
 
 -- ---- all input, however it is cut into reads
 

@@ -1,13 +1,12 @@
 -- The six kinds of frame, from what the calls below them ensure: how many rows an answer has, and what the lines put are.
-use Prim.Native.Nat.{ℕ, _+_, _*_, _/_, _≤_, _<_}
-use mathlib.Core.Path.{_≡_, refl, sym, ap, subst, _∙_}
-use mathlib.Core.Bool.{Bool, true, false}
+use Prim.Native.Nat.{ℕ, _*_, _≤_, _<_}
+use mathlib.Core.Path.{_≡_, refl}
+use mathlib.Core.Bool.{Bool, false}
 use mathlib.Core.Logic.{inl, inr}
 use mathlib.Core.List.{List, [], _∷_, _++_, append-nil}
 use native.Mathlib.Omega.{arith}
 use native.Mathlib.Nat.{min-le-left}
-use lib.ListN.{length, take, drop, length-take, length-append}
-use Rattle.laws.specs.Tests.{not-both}
+use lib.ListN.{length, take, length-take, length-append}
 use Rattle.keeping.specs.Calls.{unless}
 use Rattle.rules.specs.declared.Row.{Row}
 use Rattle.rules.specs.declared.Map.{Map}
@@ -17,12 +16,12 @@ use Rattle.rules.specs.declared.Planned.{Planned}
 use Rattle.rules.specs.declared.Booking.{Booking}
 use Rattle.rules.specs.declared.Cancelling.{Cancelling}
 use Rattle.rules.specs.declared.Paged.{Paged}
-use Rattle.rules.specs.Rows.{Key, bit, cursorKey}
+use Rattle.rules.specs.Rows.{Key, bit}
 use Rattle.rules.specs.Book.{rowsOf}
-use Rattle.rules.specs.Page.{pageRows, after}
-use Rattle.rules.specs.Answer.{Unless, PlanIs, BookIs, CancelIs, PageIs, Planning, PagingIs, records, plannedNumber, plannedArrival, plannedCount, bookedNumber, bookedTicket, bookedArrival, bookedCount, cancelledNumber, cancelledCount, pagedNumber, pagedCount, pagedMore}
+use Rattle.rules.specs.Page.{after}
+use Rattle.rules.specs.Answer.{PlanIs, BookIs, CancelIs, PageIs, Planning, PagingIs, plannedNumber, plannedArrival, plannedCount, bookedNumber, bookedTicket, bookedArrival, bookedCount, cancelledNumber, cancelledCount, pagedNumber, pagedCount, pagedMore}
 use Rattle.rules.specs.Portal.{byteAt, num2, num3}
-use Rattle.rules.specs.Frames.{hexOf, lineOf, rowLines, after00, bytes2, bytes3, answerList, planLines, bookLines, cancelLines, pageLines, closedWith, withPlace, withLink, Said, PlaceFrame, LinkFrame, PlanFrame, BookFrame, CancelFrame, PageFrame}
+use Rattle.rules.specs.Frames.{hexOf, lineOf, rowLines, after00, bytes2, bytes3, answerList, bookLines, cancelLines, closedWith, withPlace, withLink, Said, PlaceFrame, LinkFrame, PlanFrame, BookFrame, CancelFrame, PageFrame}
 use Rattle.frames.specs.declared.Head.{Head}
 use Rattle.frames.specs.declared.Told.{Told}
 use Rattle.frames.specs.Put.{line-long, rows-long}

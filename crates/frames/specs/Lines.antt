@@ -1,15 +1,15 @@
 -- A line in a fixed buffer of 18 digits, and the bytes read from it. No frame has more than 18 digits, so a longer line need not be kept.
 -- Two digits a turn give a byte; where a digit is none, or their number is odd, the line is the digits of no bytes.
-use Prim.Native.Nat.{ℕ, zero, suc, _+_, _-_, _*_, _/_, _%_, _≤_, _<_}
+use Prim.Native.Nat.{ℕ, suc, _+_, _*_, _/_, _%_, _≤_, _<_}
 use mathlib.Core.Path.{_≡_, refl, sym, ap, _∙_}
 use mathlib.Core.Logic.{⊎-elim}
+use mathlib.Core.Bool.{Bool, true, false}
 use mathlib.Core.List.{List, [], _∷_, _++_, append-assoc}
 use native.Mathlib.Omega.{arith}
 use native.Mathlib.Numerals.{add-one}
 use lib.ListN.{length, getD, take, set, length-append, length-set}
 use lib.Seq.{take-suc, take-suc-set, getD-set-same, getD-set-other, getD-take, length-take-le}
 use Rattle.laws.specs.Order.{eq-or-ne}
-use Rattle.laws.specs.Lists.{zeros}
 use Rattle.rules.specs.Portal.{byteAt}
 use Rattle.rules.specs.Frames.{digit, hexOf, frameLength}
 use Rattle.unique.specs.Hex.{Value, AreBytes, hex-length, hex-append, hex-at-high, hex-at-low}
@@ -163,6 +163,16 @@ kindOf Book = 4
 kindOf Cancel = 5
 kindOf Page = 6
 kindOf Nothing = 0
+
+-- whether its frames change map or book
+abbrev pub changesBy : Decoder → Bool
+changesBy Place = true
+changesBy Link = true
+changesBy Plan = false
+changesBy Book = true
+changesBy Cancel = true
+changesBy Page = false
+changesBy Nothing = false
 
 pub record FormIs (kind : ℕ) (f : Form) : Type 0 where
   pub length : f .length ≡ frameLength kind

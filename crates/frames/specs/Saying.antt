@@ -1,18 +1,17 @@
 -- What a line answers, from the bytes read of it. Its digits have one reading, so a frame of it has these bytes and no others: where there are none,
 -- or they have another number than their kind asks for, the line is no frame.
-use Prim.Native.Nat.{ℕ, zero, suc, _+_, _*_, _≤_, _<_}
-use mathlib.Core.Path.{_≡_, refl, sym, ap, subst, _∙_}
+use Prim.Native.Nat.{ℕ, zero, suc, _≤_, _<_}
+use mathlib.Core.Path.{_≡_, sym, ap, subst, _∙_}
 use mathlib.Core.Bool.{Bool, true, false}
-use mathlib.Core.Logic.{inl, inr}
-use mathlib.Core.List.{List, [], _∷_, _++_}
+use mathlib.Core.List.{List, [], _∷_}
 use native.Mathlib.Omega.{arith}
-use lib.ListN.{length, take, getD}
+use lib.ListN.{length, take}
 use lib.Dec.{eqb}
 use lib.Seq.{getD-take, length-take-le}
 use Rattle.rules.specs.declared.State.{State}
 use Rattle.rules.specs.Answer.{Unless}
-use Rattle.rules.specs.Portal.{byteAt, num2, num3}
-use Rattle.rules.specs.Frames.{hexOf, lineOf, lengthBy, frameLength, Frame, Said, PlaceFrame, LinkFrame, PlanFrame, BookFrame, CancelFrame, PageFrame, FrameSays, LineSays}
+use Rattle.rules.specs.Portal.{byteAt}
+use Rattle.rules.specs.Frames.{lineOf, lengthBy, frameLength, Frame, Said, PlaceFrame, LinkFrame, PlanFrame, BookFrame, CancelFrame, PageFrame, FrameSays, LineSays}
 use Rattle.unique.specs.Hex.{AreBytes, hex-injective}
 use Rattle.frames.specs.declared.Line.{Line}
 use Rattle.frames.specs.declared.Told.{Told}

@@ -1,15 +1,14 @@
 -- What a function that answers leaves: the answer's bytes at the front of the caller's list, their number, and the rest as it was.
 use Prim.Native.Nat.{ℕ, _+_, _*_, _≤_}
-use mathlib.Core.Path.{_≡_, refl, sym, ap, ap₂, _∙_}
-use mathlib.Core.List.{List, [], _∷_, _++_}
+use mathlib.Core.Path.{_≡_, refl, sym, ap₂, _∙_}
+use mathlib.Core.Bool.{Bool}
+use mathlib.Core.List.{List, [], _++_}
 use native.Mathlib.Omega.{arith}
 use lib.ListN.{length, take, drop, length-append}
 use Rattle.rules.specs.declared.State.{State}
 use Rattle.rules.specs.Frames.{lineOf, rowLines}
 use Rattle.frames.specs.declared.Told.{Told}
-use Rattle.frames.specs.declared.Head.{Head}
 use Rattle.frames.specs.Put.{Put, RowsPut, put-more, put-front, put-rest, line-long, rows-long}
-use Rattle.frames.specs.Heads.{HeadIs}
 
 -- these bytes, so many of them
 pub record Answers (said was out : List ℕ) (len : ℕ) : Type 0 where
@@ -22,6 +21,10 @@ pub record Spoken (P : State → List ℕ → Type 0) (was out : List ℕ) (r : 
   pub kept : drop (r .len) out ≡ drop (r .len) was
   pub fits : r .len ≤ 30000
   pub long : length out ≡ length was
+
+-- map and book as they were
+abbrev pub kept : State → Bool → ℕ → Told
+kept s closed len = record { state = record { map = s .map; book = s .book; closed = closed }; len = len }
 
 -- nothing is said and nothing changes
 pub record Silent (s : State) (was out : List ℕ) (r : Told) : Type 0 where

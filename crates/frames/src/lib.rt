@@ -14,6 +14,7 @@ use rules::Refusal;
 use rules::Row;
 use rules::State;
 ghost use mathlib.Core.Path.{_≡_};
+ghost use mathlib.Core.Bool.{true};
 ghost use Prim.Native.Nat.{ℕ, _+_, _*_, _%_, _<_, _≤_};
 ghost use mathlib.Core.List.{List, [], _∷_, _++_};
 ghost use lib.ListN.{length, take, drop};
@@ -21,11 +22,12 @@ ghost use Rattle.rules.specs.Rows.{bit};
 ghost use Rattle.rules.specs.Answer.{number, plannedNumber, plannedArrival, plannedCount, bookedNumber, bookedTicket, bookedArrival, bookedCount, cancelledNumber, cancelledCount, pagedNumber, pagedCount, pagedMore};
 ghost use Rattle.rules.specs.Frames.{digit, hexOf, lineOf, rowLines, after00, bytes2, bytes3, closedWith, Said, PlaceFrame, LinkFrame, PlanFrame, BookFrame, CancelFrame, PageFrame, begins};
 ghost use Rattle.unique.specs.Hex.{Value};
-ghost use Rattle.frames.specs.Lines.{LineIs, Decoded, FormIs};
+ghost use Rattle.frames.specs.Lines.{LineIs, Decoded, FormIs, changesBy};
 ghost use Rattle.frames.specs.Heads.{HeadIs};
-ghost use Rattle.frames.specs.Told.{Answers, Spoken};
-ghost use Rattle.frames.specs.Saying.{Tells, AnswerIs};
-ghost use Rattle.frames.specs.Cutting.{CutIs, Stepped, FedIs, EndedIs};
+ghost use Rattle.frames.specs.Told.{Answers, Spoken, kept};
+ghost use Rattle.frames.specs.Saying.{AnswerIs};
+ghost use Rattle.frames.specs.Answering.{WordIs, OrderIs, AskedIs};
+ghost use Rattle.frames.specs.Cutting.{CutIs, FeedIs, FedIs, EndedIs};
 ghost use Rattle.frames.specs.Put.{Put, Digits, RowsPut};
 
 // The digits of a line, of which a frame has at most 18: len 19 stands for any longer line.
@@ -171,6 +173,53 @@ fn form_of(kind: u8) -> Form
             length: 0,
             decoder: Decoder::Nothing,
         },
+    }
+}
+
+// A line read: its bytes, and what reads them on.
+struct Word {
+    bytes: [u8; 9],
+    decoder: Decoder,
+}
+
+fn word_of(l: Line) -> Word
+    ensures { λ w. ⌜ WordIs l w ⌝ }
+{
+    let b = bytes_of(l);
+    let bytes = b.bytes;
+    let n = b.count;
+    if n == 0 {
+        return Word {
+            bytes: bytes,
+            decoder: Decoder::Nothing,
+        };
+    }
+    let form = form_of(bytes[0]);
+    if form.length != n {
+        return Word {
+            bytes: bytes,
+            decoder: Decoder::Nothing,
+        };
+    }
+    let decoder = form.decoder;
+    Word {
+        bytes: bytes,
+        decoder: decoder,
+    }
+}
+
+// Whether its frames change map or book.
+fn changes(d: Decoder) -> bool
+    ensures { λ r. ⌜ r ≡ changesBy d ⌝ }
+{
+    match d {
+        Decoder::Place => true,
+        Decoder::Link => true,
+        Decoder::Book => true,
+        Decoder::Cancel => true,
+        Decoder::Plan => false,
+        Decoder::Page => false,
+        Decoder::Nothing => false,
     }
 }
 
@@ -492,12 +541,10 @@ fn link_frame(s: State, b: &[u8; 9], out: &mut [u8]) -> Told
 fn closed_with(s: State, book: Book) -> State
     ensures { λ r. ⌜ r ≡ closedWith s book ⌝ }
 {
-    let m = s.map;
-    State {
-        map: m,
-        book: book,
-        closed: true,
-    }
+    let mut next = s;
+    next.book = book;
+    next.closed = true;
+    next
 }
 
 fn wide(x: u8) -> u32
@@ -506,10 +553,10 @@ fn wide(x: u8) -> u32
     x as u32
 }
 
-fn plan_frame(s: State, b: &[u8; 9], out: &mut [u8]) -> Told
+fn plan_frame(s: State, b: &[u8; 9], out: &mut [u8]) -> usize
     requires { ⌜ length (now b) ≡ 9 ⌝ }
     requires { ⌜ 30000 ≤ length (now out) ⌝ }
-    ensures { λ r. ⌜ Spoken (PlanFrame s (now (b .entry))) (now (out .entry)) (now (out .exit)) r ⌝ }
+    ensures { λ r. ⌜ Spoken (PlanFrame s (now (b .entry))) (now (out .entry)) (now (out .exit)) (kept s true r) ⌝ }
 {
     let m = s.map;
     let book = s.book;
@@ -520,12 +567,7 @@ fn plan_frame(s: State, b: &[u8; 9], out: &mut [u8]) -> Told
     let p = planning::plan(m, book, start, destination, second, &mut list);
     let h = plan_head(p);
     let rows = plan_rows(p);
-    let len = put_answer(h, &list, rows, out);
-    let next = closed_with(s, book);
-    Told {
-        state: next,
-        len: len,
-    }
+    put_answer(h, &list, rows, out)
 }
 
 fn book_frame(s: State, b: &[u8; 9], out: &mut [u8]) -> Told
@@ -570,10 +612,10 @@ fn cancel_frame(s: State, b: &[u8; 9], out: &mut [u8]) -> Told
     }
 }
 
-fn page_frame(s: State, b: &[u8; 9], out: &mut [u8]) -> Told
+fn page_frame(s: State, b: &[u8; 9], out: &mut [u8]) -> usize
     requires { ⌜ length (now b) ≡ 9 ⌝ }
     requires { ⌜ 30000 ≤ length (now out) ⌝ }
-    ensures { λ r. ⌜ Spoken (PageFrame s (now (b .entry))) (now (out .entry)) (now (out .exit)) r ⌝ }
+    ensures { λ r. ⌜ Spoken (PageFrame s (now (b .entry))) (now (out .entry)) (now (out .exit)) (kept s true r) ⌝ }
 {
     let m = s.map;
     let book = s.book;
@@ -590,49 +632,95 @@ fn page_frame(s: State, b: &[u8; 9], out: &mut [u8]) -> Told
     let p = paging::page(m, book, size, cursor, &mut list);
     let h = page_head(p);
     let rows = page_rows(p);
-    let len = put_answer(h, &list, rows, out);
-    let next = closed_with(s, book);
-    Told {
-        state: next,
-        len: len,
-    }
+    put_answer(h, &list, rows, out)
 }
 
-// What a line makes of the state, and the bytes that it prints, over the first of out.
-fn reply(s: State, l: Line, out: &mut [u8]) -> Told
+// What a line that changes map or book makes of the state; the decoders of other lines are not given here.
+fn order(s: State, w: Word, out: &mut [u8]) -> Told
     requires { ⌜ 30000 ≤ length (now out) ⌝ }
-    ensures { λ r. ⌜ Spoken (Tells s l) (now (out .entry)) (now (out .exit)) r ⌝ }
+    ensures { λ r. ⌜ OrderIs s w (now (out .entry)) (now (out .exit)) r ⌝ }
 {
-    let b = bytes_of(l);
-    let n = b.count;
-    if n == 0 {
-        return refused(s, out);
-    }
-    let bytes = b.bytes;
-    let form = form_of(bytes[0]);
-    if form.length != n {
-        return refused(s, out);
-    }
-    let decoder = form.decoder;
+    let bytes = w.bytes;
+    let decoder = w.decoder;
     match decoder {
         Decoder::Place => place_frame(s, &bytes, out),
         Decoder::Link => link_frame(s, &bytes, out),
-        Decoder::Plan => plan_frame(s, &bytes, out),
         Decoder::Book => book_frame(s, &bytes, out),
         Decoder::Cancel => cancel_frame(s, &bytes, out),
-        Decoder::Page => page_frame(s, &bytes, out),
+        Decoder::Plan => refused(s, out),
+        Decoder::Page => refused(s, out),
         Decoder::Nothing => refused(s, out),
     }
 }
 
-// The same for every list: one too short for the longest answer is left as it is, and so is the state.
+// What a line that leaves map and book as they are answers, and whether the map is closed after it.
+struct Asked {
+    len: usize,
+    closed: bool,
+}
+
+// "A line refused with 12 changes nothing."
+fn no_frame(s: State, out: &mut [u8]) -> Asked
+    requires { ⌜ 30000 ≤ length (now out) ⌝ }
+    ensures { λ r. ⌜ Spoken (Said s (lineOf (12 ∷ []))) (now (out .entry)) (now (out .exit)) (kept s (r .closed) (r .len)) ⌝ }
+{
+    let len = put_number(12, out);
+    Asked {
+        len: len,
+        closed: s.closed,
+    }
+}
+
+// The decoders of lines that change map or book are not given here.
+fn ask(s: State, w: Word, out: &mut [u8]) -> Asked
+    requires { ⌜ 30000 ≤ length (now out) ⌝ }
+    ensures { λ r. ⌜ AskedIs s w (now (out .entry)) (now (out .exit)) r ⌝ }
+{
+    let bytes = w.bytes;
+    let decoder = w.decoder;
+    match decoder {
+        Decoder::Plan => {
+            let len = plan_frame(s, &bytes, out);
+            Asked {
+                len: len,
+                closed: true,
+            }
+        }
+        Decoder::Page => {
+            let len = page_frame(s, &bytes, out);
+            Asked {
+                len: len,
+                closed: true,
+            }
+        }
+        Decoder::Nothing => no_frame(s, out),
+        Decoder::Place => no_frame(s, out),
+        Decoder::Link => no_frame(s, out),
+        Decoder::Book => no_frame(s, out),
+        Decoder::Cancel => no_frame(s, out),
+    }
+}
+
+// The state after a line, and the bytes that it prints over the first of out. A list too short for the longest answer is left as it is, and so is
+// the state.
 pub fn answer(s: State, l: Line, out: &mut [u8]) -> Told
     ensures { λ r. ⌜ AnswerIs s l (now (out .entry)) (now (out .exit)) r ⌝ }
 {
     if out.len() < 30000 {
         return Told { state: s, len: 0 };
     }
-    reply(s, l, out)
+    let w = word_of(l);
+    let decoder = w.decoder;
+    if changes(decoder) {
+        return order(s, w, out);
+    }
+    let q = ask(s, w, out);
+    let mut next = s;
+    next.closed = q.closed;
+    Told {
+        state: next,
+        len: q.len,
+    }
 }
 
 // ---- input cut into lines
@@ -682,35 +770,61 @@ pub struct Intake {
     pub len: usize,
 }
 
-// The line that is begun, taken as far as the bytes reach, and answered where they end it.
-fn step(d: Desk, buf: &[u8], from: usize, at: usize, out: &mut [u8]) -> Intake
-    requires { ⌜ from ≤ length (now buf) ⌝ }
-    requires { ⌜ at + 30000 ≤ length (now out) ⌝ }
-    ensures { λ r. ⌜ Stepped d (now (buf .entry)) from at (now (out .entry)) (now (out .exit)) r ⌝ }
+// A line that leaves map and book as they are copies neither. An answer takes a byte or more of the input.
+fn feed(d: Desk, buf: &[u8], from: usize, out: &mut [u8]) -> Intake
+    ensures { λ r. ⌜ FeedIs d (now (buf .entry)) from (now (out .entry)) (now (out .exit)) r ⌝ }
 {
-    let s = d.state;
-    let begun = d.line;
-    let c = take_line(begun, buf, from);
-    let taken = c.line;
-    if c.ended {
-        let t = reply(s, taken, &mut out[at..]);
-        let after = t.state;
+    let mut s = d.state;
+    let mut begun = d.line;
+    let mut i = from;
+    let mut at: usize = 0;
+    while i < buf.len() {
+        if out.len() - at < 30000 {
+            return Intake {
+                desk: Desk {
+                    state: s,
+                    line: begun,
+                },
+                upto: i,
+                len: at,
+            };
+        }
+        let c = take_line(begun, buf, i);
+        let taken = c.line;
+        if !c.ended {
+            return Intake {
+                desk: Desk {
+                    state: s,
+                    line: taken,
+                },
+                upto: c.upto,
+                len: at,
+            };
+        }
+        let w = word_of(taken);
+        let decoder = w.decoder;
         let next = Line::empty();
-        return Intake {
-            desk: Desk {
-                state: after,
-                line: next,
-            },
-            upto: c.upto,
-            len: at + t.len,
-        };
+        if changes(decoder) {
+            let t = order(s, w, &mut out[at..]);
+            let after = t.state;
+            s = after;
+            begun = next;
+            i = c.upto;
+            at += t.len;
+            continue;
+        }
+        let q = ask(s, w, &mut out[at..]);
+        s.closed = q.closed;
+        begun = next;
+        i = c.upto;
+        at += q.len;
     }
     Intake {
         desk: Desk {
             state: s,
-            line: taken,
+            line: begun,
         },
-        upto: c.upto,
+        upto: i,
         len: at,
     }
 }
@@ -719,43 +833,26 @@ fn step(d: Desk, buf: &[u8], from: usize, at: usize, out: &mut [u8]) -> Intake
 pub fn fed(d: Desk, buf: &[u8], from: usize, out: &mut [u8]) -> Intake
     ensures { λ r. ⌜ FedIs d (now (buf .entry)) from (now (out .entry)) (now (out .exit)) r ⌝ }
 {
-    let mut e = d;
-    let mut i = from;
-    let mut at: usize = 0;
-    while i < buf.len() {
-        if out.len() - at < 30000 {
-            return Intake {
-                desk: e,
-                upto: i,
-                len: at,
-            };
-        }
-        let f = step(e, buf, i, at, out);
-        let after = f.desk;
-        e = after;
-        i = f.upto;
-        at = f.len;
-    }
-    Intake {
-        desk: e,
-        upto: i,
-        len: at,
-    }
+    feed(d, buf, from, out)
 }
 
-// The last line, where it lacks its line feed.
+// The last line, where it lacks its line feed: it is fed one.
 pub fn ended(d: Desk, out: &mut [u8]) -> Told
     ensures { λ r. ⌜ EndedIs d (now (out .entry)) (now (out .exit)) r ⌝ }
 {
-    let s = d.state;
     let line = d.line;
-    if out.len() < 30000 {
-        return Told { state: s, len: 0 };
-    }
     if line.len == 0 {
+        let s = d.state;
         return Told { state: s, len: 0 };
     }
-    reply(s, line, out)
+    let line_feed = [10u8; 1];
+    let f = feed(d, &line_feed, 0, out);
+    let after = f.desk;
+    let s = after.state;
+    Told {
+        state: s,
+        len: f.len,
+    }
 }
 
 impl Desk {

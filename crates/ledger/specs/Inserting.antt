@@ -2,10 +2,10 @@
 -- in the book keep it in key order, so that each next row can be put in.
 use mathlib.Core.Path.{_≡_, refl, sym, ap, subst, _∙_}
 use mathlib.Core.List.{List, [], _∷_, _++_, List·Memᴰ}
-use Prim.Native.Nat.{ℕ, _+_, _<_, _≤_}
+use Prim.Native.Nat.{ℕ, _+_, _-_, _<_, _≤_}
 use native.Mathlib.Numerals.{add-one}
 use native.Mathlib.Omega.{arith}
-use lib.ListN.{length, take}
+use lib.ListN.{length, take, replicate, length-append, length-replicate}
 use lib.Seq.{take-suc, take-length, length-take-le, getD-take}
 use Rattle.laws.specs.Lists.{mem-index, index-mem}
 use Rattle.rules.specs.declared.Row.{Row}
@@ -90,6 +90,11 @@ module _ {new rows : List Row} {t : ℕ} where
           omega (arith, count-held (insertAll (take i new) rows) t (I .holds), all-length (take i new) rows, length-take-le i new w, I .fits),
           (book-held (insertAll (take i new) rows) t (I .holds), rising-held (insertAll (take i new) rows) t (I .holds) (all-rising (take i new) rows (I .rising) (new-take new rows i w (I .all-new)))),
         )
+
+    pub inserted-long : length (s .rows) ≡ 1024
+    inserted-long =
+        let l = insertAll (take i new) rows in
+        omega (arith, ap (λ (x : Book). length (x .rows)) (I .holds), length-append l (replicate (1024 - length l) noRow), length-replicate {A = Row} (1024 - length l) noRow, all-length (take i new) rows, length-take-le i new (I .within), I .fits)
 
     pub inserted-next : {r : Row} {s′ : Book} → i < length new → r ≡ rowAt new i → s′ ≡ bookOf (insertRow r (rowsOf s)) (s .«next_ticket»)
         → Inserting new rows t (i + 1) s′

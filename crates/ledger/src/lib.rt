@@ -1,13 +1,12 @@
-// Changes of a book, by value: a row put in, a ticket's rows taken out, a ticket issued.
+// Changes of a book, by value: a ticket's rows taken out, a ticket issued. The laws of a row put in stand in specs/.
 use rules::Book;
-use rules::Cursor;
 use rules::Row;
 ghost use mathlib.Core.Path.{_≡_};
 ghost use mathlib.Core.List.{List, []};
 ghost use Prim.Native.Nat.{ℕ, _+_, _≤_, _<_};
 ghost use lib.ListN.{length};
 ghost use Rattle.rules.specs.declared.Row.{Row};
-ghost use Rattle.rules.specs.Rows.{Rising, keep, insertRow};
+ghost use Rattle.rules.specs.Rows.{keep};
 ghost use Rattle.rules.specs.Book.{rowsOf, bookOf, ofTicket, otherTicket};
 
 // the book of no rows, whose first ticket is 1
@@ -27,35 +26,6 @@ pub fn empty_book() -> Book
         count: 0,
         next_ticket: 1,
     }
-}
-
-// the book with one row more, in key order: the rows above it move up by one, the last first
-pub fn insert(b: Book, r: Row) -> Book
-    requires { ⌜ b .count < 1024 ⌝ }
-    requires { ⌜ b ≡ bookOf (rowsOf b) (b .«next_ticket») ⌝ }
-    requires { ⌜ Rising (rowsOf b) ⌝ }
-    ensures { λ s. ⌜ s ≡ bookOf (insertRow r (rowsOf b)) (b .«next_ticket») ⌝ }
-{
-    let place = r.place as u32;
-    let key = Cursor {
-        place: place,
-        entry: r.entry,
-        ticket: r.ticket,
-    };
-    let n = b.count;
-    let mut out = b;
-    let mut j = n;
-    while 0 < j {
-        let x = out.rows[j - 1];
-        if !key.before(x) {
-            break;
-        }
-        out.rows[j] = x;
-        j -= 1;
-    }
-    out.rows[j] = r;
-    out.count = n + 1;
-    out
 }
 
 pub struct Removed {

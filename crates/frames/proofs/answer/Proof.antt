@@ -1,33 +1,49 @@
-use Prim.Native.Nat.{ℕ, suc, _+_, _-_, _*_, _/_, _%_, _≤_, _<_, min, max}
-use mathlib.Core.Path.{_≡_, refl, sym, ap, subst, _∙_}
-use mathlib.Core.Logic.{_⊎_, inl, inr, ⊎-elim}
-use mathlib.Core.Bool.{Bool, true, false, not}
-use mathlib.Core.List.{List}
+-- `frames::answer` meets its contract: a list too short is left as it is, and else the line goes where its decoder says.
+use mathlib.Core.Path.{sym, _∙_}
+use mathlib.Core.Logic.{inl, inr}
 use native.Mathlib.Omega.{arith}
-use lib.ListN.{length, getD, set, take, drop}
 use borrow.Author.Needs.{needs}
 use Rattle.frames.specs.Told.{silent}
 use Rattle.frames.proofs.answer.Statement.{statement}
 use Rattle.frames.proofs.answer.Tie as tie
-use Rattle.frames.proofs.answer.Reads as reads
-use Rattle.frames.proofs.answer.Lts as lts
-use Rattle.frames.proofs.reply.Reads as reply-reads
 
--- src/lib.rt:633:9
 returns : tie.Need-returns
 returns c = inl ((λ h. omega arith), silent _ _)
 
--- src/lib.rt:635:5
-reply-requires : tie.Need-reply-requires
-reply-requires c κs = search needs
+word-of-requires : tie.Need-word-of-requires
+word-of-requires c κs = search needs
 
--- src/lib.rt:629:1
+changes-requires : tie.Need-changes-requires
+changes-requires c κs = search needs
+
+order-requires : tie.Need-order-requires
+order-requires c κs = search needs
+
 same-length : tie.Need-same-length
 same-length c = search needs
 
--- src/lib.rt:629:1
 returns-2 : tie.Need-returns-2
-returns-2 c = inr (omega arith, c .before .before .reply .ensures)
+returns-2 c = inr (omega arith, c .before .before .order .ensures (sym (c .before .before .before .before .before .changes .ensures) ∙ c .before .before .before .before .if2 .taken) _ (c .before .before .before .before .before .before .word-of .ensures))
+
+ask-requires : tie.Need-ask-requires
+ask-requires c κs = search needs
+
+same-length-2 : tie.Need-same-length-2
+same-length-2 c = search needs
+
+returns-3 : tie.Need-returns-3
+returns-3 c = inr (omega arith, c .before .before .ask .ensures (sym (c .before .before .before .before .before .changes .ensures) ∙ c .before .before .before .before .if2 .left) _ (c .before .before .before .before .before .before .word-of .ensures))
 
 pub answer-spec : {M : Type 1} → statement M
-answer-spec = tie.close (tie.spec returns reply-requires same-length returns-2)
+answer-spec =
+    tie.close
+    (tie.spec
+    returns
+    word-of-requires
+    changes-requires
+    order-requires
+    same-length
+    returns-2
+    ask-requires
+    same-length-2
+    returns-3)

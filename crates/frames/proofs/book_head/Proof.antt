@@ -1,102 +1,70 @@
 -- `frames::book_head` meets its contract: the array's bytes are 00, the ticket's three, the arrival's three and the count's two, or a refusal's number.
-use Prim.Native.Nat.{ℕ, suc, _+_, _-_, _*_, _/_, _%_, _≤_, _<_, min, max}
-use mathlib.Core.Path.{_≡_, refl, sym, ap, subst, _∙_}
-use mathlib.Core.Logic.{_⊎_, inl, inr, ⊎-elim}
-use mathlib.Core.Bool.{Bool, true, false, not}
-use mathlib.Core.List.{List}
+use mathlib.Core.Path.{refl}
 use native.Mathlib.Omega.{arith}
-use lib.ListN.{length, getD, set, take, drop}
 use borrow.Author.Needs.{needs}
-use Rattle.frames.specs.Heads.{HeadIs}
 use Rattle.frames.proofs.book_head.Statement.{statement}
 use Rattle.frames.proofs.book_head.Tie as tie
-use Rattle.frames.proofs.book_head.Reads as reads
-use Rattle.frames.proofs.book_head.Lts as lts
-use Rattle.frames.proofs.low_byte.Reads as low-byte-reads
-use Rattle.frames.proofs.low_of.Reads as low-of-reads
-use Rattle.frames.proofs.refused_head.Reads as refused-head-reads
 
--- src/lib.rt:251:22
 enum-known-b : tie.Need-enum-known-b
 enum-known-b c = search needs
 
--- src/lib.rt:253:24
 low-byte-requires : tie.Need-low-byte-requires
 low-byte-requires c κs = search needs
 
--- src/lib.rt:253:13
 array-write-bytes : tie.Need-array-write-bytes
 array-write-bytes c = search needs
 
--- src/lib.rt:254:24
 low-byte-requires-2 : tie.Need-low-byte-requires-2
 low-byte-requires-2 c κs = search needs
 
--- src/lib.rt:254:13
 array-write-bytes-2 : tie.Need-array-write-bytes-2
 array-write-bytes-2 c = search needs
 
--- src/lib.rt:255:24
 low-byte-requires-3 : tie.Need-low-byte-requires-3
 low-byte-requires-3 c κs = search needs
 
--- src/lib.rt:255:13
 array-write-bytes-3 : tie.Need-array-write-bytes-3
 array-write-bytes-3 c = search needs
 
--- src/lib.rt:256:24
 low-byte-requires-4 : tie.Need-low-byte-requires-4
 low-byte-requires-4 c κs = search needs
 
--- src/lib.rt:256:13
 array-write-bytes-4 : tie.Need-array-write-bytes-4
 array-write-bytes-4 c = search needs
 
--- src/lib.rt:257:24
 low-byte-requires-5 : tie.Need-low-byte-requires-5
 low-byte-requires-5 c κs = search needs
 
--- src/lib.rt:257:13
 array-write-bytes-5 : tie.Need-array-write-bytes-5
 array-write-bytes-5 c = search needs
 
--- src/lib.rt:258:24
 low-byte-requires-6 : tie.Need-low-byte-requires-6
 low-byte-requires-6 c κs = search needs
 
--- src/lib.rt:258:13
 array-write-bytes-6 : tie.Need-array-write-bytes-6
 array-write-bytes-6 c = search needs
 
--- src/lib.rt:259:24
 low-of-requires : tie.Need-low-of-requires
 low-of-requires c κs = search needs
 
--- src/lib.rt:259:13
 array-write-bytes-7 : tie.Need-array-write-bytes-7
 array-write-bytes-7 c = search needs
 
--- src/lib.rt:260:24
 low-of-requires-2 : tie.Need-low-of-requires-2
 low-of-requires-2 c κs = search needs
 
--- src/lib.rt:260:13
 array-write-bytes-8 : tie.Need-array-write-bytes-8
 array-write-bytes-8 c = search needs
 
--- src/lib.rt:263:25
 enum-known-b-2 : tie.Need-enum-known-b-2
 enum-known-b-2 c = search needs
 
--- src/lib.rt:263:31
 refused-head-requires : tie.Need-refused-head-requires
 refused-head-requires c κs = search needs
 
--- src/lib.rt:247:1
 returns : tie.Need-returns
 returns c = rw (c .before .before .before .before .before .before .before .before .before .before .before .before .before .before .b .given .1, c .before .before .before .before .before .before .before .before .before .before .before .low-byte .ensures, c .before .before .before .before .before .before .before .before .before .low-byte2 .ensures, c .before .before .before .before .before .before .before .before .low-byte3 .ensures, c .before .before .before .before .before .before .low-byte4 .ensures, c .before .before .before .before .low-byte5 .ensures, c .before .before .before .low-byte6 .ensures, c .before .low-of .ensures, c .low-of2 .ensures) (record { is = refl; fits = omega arith; long = refl })
 
--- src/lib.rt:247:1
 returns-2 : tie.Need-returns-2
 returns-2 c = rw (c .before .before .b2 .given .1) (c .refused-head .ensures _)
 

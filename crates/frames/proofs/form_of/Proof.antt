@@ -1,56 +1,40 @@
 -- `frames::form_of` meets its contract: each kind's own length and decoder, and length 0 for the kinds that there are not.
-use Prim.Native.Nat.{ℕ, suc, _+_, _-_, _*_, _/_, _%_, _≤_, _<_, min, max}
-use mathlib.Core.Path.{_≡_, refl, sym, ap, subst, _∙_}
-use mathlib.Core.Logic.{_⊎_, inl, inr, ⊎-elim}
-use mathlib.Core.Bool.{Bool, true, false, not}
-use mathlib.Core.List.{List}
+use mathlib.Core.Path.{_≡_, refl}
 use native.Mathlib.Omega.{arith}
-use lib.ListN.{length, getD, set, take, drop}
-use borrow.Author.Needs.{needs}
 use Rattle.frames.specs.declared.Decoder.the-variants.{Place, Link, Plan, Book, Cancel, Page, Nothing}
 use Rattle.rules.specs.Frames.{frameLength}
 use Rattle.frames.specs.Lines.{form-known, form-unknown}
 use Rattle.frames.proofs.form_of.Statement.{statement}
 use Rattle.frames.proofs.form_of.Tie as tie
-use Rattle.frames.proofs.form_of.Reads as reads
-use Rattle.frames.proofs.form_of.Lts as lts
 
--- src/lib.rt:107:1
 returns : tie.Need-returns
 unfolding frameLength
 returns c = let e : c .before .args .kind ≡ 1 = omega arith in rw e (form-known Place refl)
 
--- src/lib.rt:107:1
 returns-2 : tie.Need-returns-2
 unfolding frameLength
 returns-2 c = let e : c .before .args .kind ≡ 2 = omega arith in rw e (form-known Link refl)
 
--- src/lib.rt:107:1
 returns-3 : tie.Need-returns-3
 unfolding frameLength
 returns-3 c = let e : c .before .args .kind ≡ 3 = omega arith in rw e (form-known Plan refl)
 
--- src/lib.rt:107:1
 returns-4 : tie.Need-returns-4
 unfolding frameLength
 returns-4 c = let e : c .before .args .kind ≡ 4 = omega arith in rw e (form-known Book refl)
 
--- src/lib.rt:107:1
 returns-5 : tie.Need-returns-5
 unfolding frameLength
 returns-5 c = let e : c .before .args .kind ≡ 5 = omega arith in rw e (form-known Cancel refl)
 
--- src/lib.rt:107:1
 returns-6 : tie.Need-returns-6
 unfolding frameLength
 returns-6 c = let e : c .before .args .kind ≡ 6 = omega arith in rw e (form-known Page refl)
 
--- src/lib.rt:107:1
 returns-7 : tie.Need-returns-7
 unfolding frameLength
 returns-7 c = let e : c .before .args .kind ≡ 0 = omega arith in rw e (form-known Nothing refl)
 
--- src/lib.rt:107:1
 returns-8 : tie.Need-returns-8
 returns-8 c = let r = c .match .rest in form-unknown (c .before .args .kind) (r .0 .0 .0 .0 .0 .0 .1) (r .0 .0 .0 .0 .0 .1) (r .0 .0 .0 .0 .1) (r .0 .0 .0 .1) (r .0 .0 .1) (r .0 .1)
 

@@ -1,87 +1,64 @@
-use Prim.Native.Nat.{ℕ, suc, _+_, _-_, _*_, _/_, _%_, _≤_, _<_, min, max}
-use mathlib.Core.Path.{_≡_, refl, sym, ap, subst, _∙_}
-use mathlib.Core.Logic.{_⊎_, inl, inr, ⊎-elim}
-use mathlib.Core.Bool.{Bool, true, false, not}
-use mathlib.Core.List.{List}
+-- `frames::plan_frame` meets its contract: the plan's first line and its rows from the list that planning wrote.
+use Prim.Native.Nat.{ℕ}
+use mathlib.Core.Path.{_≡_}
 use native.Mathlib.Omega.{arith}
-use lib.ListN.{length, getD, set, take, drop}
+use lib.ListN.{length}
 use borrow.Author.Needs.{needs}
 use lib.ListN.{length-replicate}
 use Rattle.frames.specs.Frames.{plan-few, plan-frame}
-use Rattle.planning.proofs.plan.Reads as plan-reads
-use Rattle.wire.proofs.three.Reads as three-reads
 use Rattle.frames.proofs.plan_frame.Statement.{statement}
 use Rattle.frames.proofs.plan_frame.Tie as tie
-use Rattle.frames.proofs.plan_frame.Reads as reads
-use Rattle.frames.proofs.plan_frame.Lts as lts
-use Rattle.frames.proofs.closed_with.Reads as closed-with-reads
-use Rattle.frames.proofs.plan_head.Reads as plan-head-reads
-use Rattle.frames.proofs.plan_rows.Reads as plan-rows-reads
-use Rattle.frames.proofs.put_answer.Reads as put-answer-reads
-use Rattle.frames.proofs.wide.Reads as wide-reads
 
--- src/lib.rt:422:22
 element-copy-out-wide : tie.Need-element-copy-out-wide
 element-copy-out-wide c = search needs
 
--- src/lib.rt:422:9
 wide-requires : tie.Need-wide-requires
 wide-requires c κs = search needs
 
--- src/lib.rt:423:28
 element-copy-out-wide-2 : tie.Need-element-copy-out-wide-2
 element-copy-out-wide-2 c = search needs
 
--- src/lib.rt:423:9
 wide-requires-2 : tie.Need-wide-requires-2
 wide-requires-2 c κs = search needs
 
--- src/lib.rt:424:9
 three-requires : tie.Need-three-requires
 three-requires c κs = search needs
 
--- src/lib.rt:426:65
 slice-aggregate-plan : tie.Need-slice-aggregate-plan
 slice-aggregate-plan c = search needs
 
--- src/lib.rt:426:9
 plan-requires : tie.Need-plan-requires
 plan-requires c κs = search needs
 
--- src/lib.rt:427:9
 plan-head-requires : tie.Need-plan-head-requires
 plan-head-requires c κs = search needs
 
--- src/lib.rt:428:9
 plan-rows-requires : tie.Need-plan-rows-requires
 plan-rows-requires c κs = search needs
 
--- src/lib.rt:429:29
 slice-aggregate-put-answer : tie.Need-slice-aggregate-put-answer
 slice-aggregate-put-answer c = search needs
 
--- src/lib.rt:429:9
 put-answer-requires : tie.Need-put-answer-requires
 put-answer-requires c κs =
     let k : length (c .before .before .before .before .before .plan .last .1 .1 .1 .1 .1 .0) ≡ 14080 = c .before .before .before .before .before .plan .kept .1 .1 .1 .1 .1 .0 in
     let f = plan-few (c .before .before .before .before .before .plan .ensures) (length-replicate {A = ℕ} 14080 0) in
     ((c .before .before .before .plan-head .ensures .fits, c .before .before .before .plan-head .ensures .long), (omega (arith, c .before .before .plan-rows .ensures), omega (arith, c .before .before .plan-rows .ensures)))
 
--- src/lib.rt:524:9
-closed-with-requires : tie.Need-closed-with-requires
-closed-with-requires c κs = search needs
-
--- src/lib.rt:415:1
 same-length : tie.Need-same-length
 same-length c = search needs
 
--- src/lib.rt:415:1
 returns : tie.Need-returns
 returns c =
-    let k : length (c .before .before .before .before .before .before .before .before .before .plan .last .1 .1 .1 .1 .1 .0) ≡ 14080 = c .before .before .before .before .before .before .before .before .before .plan .kept .1 .1 .1 .1 .1 .0 in
-    let f = plan-few (c .before .before .before .before .before .before .before .before .before .plan .ensures) (length-replicate {A = ℕ} 14080 0) in
-    rw (c .closed-with .ensures)
-    (plan-frame (c .before .before .before .before .before .before .before .before .before .before .before .before .before .before .before .before .before .before .before .before .args .s) (c .before .before .before .before .before .before .before .before .before .before .before .before .before .before .before .before .before .before .before .before .args .b .now) (c .before .before .before .before .before .before .before .plan-head .result) (c .before .before .before .before .before .before .before .before .before .plan .result) (c .before .before .before .before .before .before .before .before .before .plan .last .1 .1 .1 .1 .1 .0) (c .before .before .before .before .before .before .plan-rows .result) (c .before .before .before .before .before .before .before .before .before .before .before .before .before .before .before .wide .ensures) (c .before .before .before .before .before .before .before .before .before .before .before .before .before .wide2 .ensures) (c .before .before .before .before .before .before .before .before .before .before .before .three .ensures .0) (c .before .before .before .before .before .before .before .before .before .plan .ensures) (omega (arith, c .before .before .before .before .before .before .plan-rows .ensures)) k (c .before .before .before .before .before .before .plan-rows .ensures) (c .before .before .before .before .before .before .before .plan-head .ensures) (c .before .before .before .put-answer .ensures))
+    let a = c .before .before .before .before .before .before .before .before .before .before .before .before .before .before .before .before .before .before .before .args in
+    let p = c .before .before .before .before .before .before .before .before .plan in
+    let h = c .before .before .before .before .before .before .plan-head in
+    let n = c .before .before .before .before .before .plan-rows in
+    let k : length (p .last .1 .1 .1 .1 .1 .0) ≡ 14080 = p .kept .1 .1 .1 .1 .1 .0 in
+    let f = plan-few (p .ensures) (length-replicate {A = ℕ} 14080 0) in
+    plan-frame (a .s) (a .b .now) (h .result) (p .result) (p .last .1 .1 .1 .1 .1 .0) (n .result)
+    (c .before .before .before .before .before .before .before .before .before .before .before .before .before .before .wide .ensures) (c .before .before .before .before .before .before .before .before .before .before .before .before .wide2 .ensures) (c .before .before .before .before .before .before .before .before .before .before .three .ensures .0)
+    (p .ensures) (omega (arith, n .ensures)) k (n .ensures) (h .ensures) (c .before .before .put-answer .ensures)
 
 pub plan-frame-spec : {M : Type 1} → statement M
 plan-frame-spec =
@@ -98,6 +75,5 @@ plan-frame-spec =
     plan-rows-requires
     slice-aggregate-put-answer
     put-answer-requires
-    closed-with-requires
     same-length
     returns)

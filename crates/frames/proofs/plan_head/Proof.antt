@@ -1,78 +1,52 @@
 -- `frames::plan_head` meets its contract: the array's bytes are 00, the arrival's three and the count's two, or a refusal's number.
-use Prim.Native.Nat.{ℕ, suc, _+_, _-_, _*_, _/_, _%_, _≤_, _<_, min, max}
-use mathlib.Core.Path.{_≡_, refl, sym, ap, subst, _∙_}
-use mathlib.Core.Logic.{_⊎_, inl, inr, ⊎-elim}
-use mathlib.Core.Bool.{Bool, true, false, not}
-use mathlib.Core.List.{List}
+use mathlib.Core.Path.{refl}
 use native.Mathlib.Omega.{arith}
-use lib.ListN.{length, getD, set, take, drop}
 use borrow.Author.Needs.{needs}
-use Rattle.frames.specs.Heads.{HeadIs}
 use Rattle.frames.proofs.plan_head.Statement.{statement}
 use Rattle.frames.proofs.plan_head.Tie as tie
-use Rattle.frames.proofs.plan_head.Reads as reads
-use Rattle.frames.proofs.plan_head.Lts as lts
-use Rattle.frames.proofs.low_byte.Reads as low-byte-reads
-use Rattle.frames.proofs.low_of.Reads as low-of-reads
-use Rattle.frames.proofs.refused_head.Reads as refused-head-reads
 
--- src/lib.rt:234:23
 enum-known-p : tie.Need-enum-known-p
 enum-known-p c = search needs
 
--- src/lib.rt:236:24
 low-byte-requires : tie.Need-low-byte-requires
 low-byte-requires c κs = search needs
 
--- src/lib.rt:236:13
 array-write-bytes : tie.Need-array-write-bytes
 array-write-bytes c = search needs
 
--- src/lib.rt:237:24
 low-byte-requires-2 : tie.Need-low-byte-requires-2
 low-byte-requires-2 c κs = search needs
 
--- src/lib.rt:237:13
 array-write-bytes-2 : tie.Need-array-write-bytes-2
 array-write-bytes-2 c = search needs
 
--- src/lib.rt:238:24
 low-byte-requires-3 : tie.Need-low-byte-requires-3
 low-byte-requires-3 c κs = search needs
 
--- src/lib.rt:238:13
 array-write-bytes-3 : tie.Need-array-write-bytes-3
 array-write-bytes-3 c = search needs
 
--- src/lib.rt:239:24
 low-of-requires : tie.Need-low-of-requires
 low-of-requires c κs = search needs
 
--- src/lib.rt:239:13
 array-write-bytes-4 : tie.Need-array-write-bytes-4
 array-write-bytes-4 c = search needs
 
--- src/lib.rt:240:24
 low-of-requires-2 : tie.Need-low-of-requires-2
 low-of-requires-2 c κs = search needs
 
--- src/lib.rt:240:13
 array-write-bytes-5 : tie.Need-array-write-bytes-5
 array-write-bytes-5 c = search needs
 
--- src/lib.rt:243:26
 enum-known-p-2 : tie.Need-enum-known-p-2
 enum-known-p-2 c = search needs
 
--- src/lib.rt:243:32
 refused-head-requires : tie.Need-refused-head-requires
 refused-head-requires c κs = search needs
 
--- src/lib.rt:230:1
 returns : tie.Need-returns
 returns c = rw (c .before .before .before .before .before .before .before .before .before .p .given .1, c .before .before .before .before .before .before .low-byte .ensures, c .before .before .before .before .low-byte2 .ensures, c .before .before .before .low-byte3 .ensures, c .before .low-of .ensures, c .low-of2 .ensures) (record { is = refl; fits = omega arith; long = refl })
 
--- src/lib.rt:230:1
 returns-2 : tie.Need-returns-2
 returns-2 c = rw (c .before .before .p2 .given .1) (c .refused-head .ensures _)
 

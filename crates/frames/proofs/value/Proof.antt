@@ -1,34 +1,25 @@
 -- `frames::value` meets its contract: the two ranges of digits give their values, and no other byte is a digit.
-use Prim.Native.Nat.{ℕ}
 use native.Mathlib.Omega.{arith}
 use Rattle.unique.specs.Hex.{value-low, value-high, value-none}
 use borrow.Author.Needs.{needs}
 use Rattle.frames.proofs.value.Statement.{statement}
 use Rattle.frames.proofs.value.Tie as tie
-use Rattle.frames.proofs.value.Reads as reads
-use Rattle.frames.proofs.value.Lts as lts
 
--- src/lib.rt:13:20
 sub-result : tie.Need-sub-result
 sub-result c = search needs
 
--- src/lib.rt:8:1
 returns : tie.Need-returns
 returns c = let x = c .before .before .args .c in value-low x (omega arith) (omega arith)
 
--- src/lib.rt:8:1
 returns-2 : tie.Need-returns-2
 returns-2 c = let x = c .before .before .before .before .args .c in value-high x (omega arith) (omega arith)
 
--- src/lib.rt:8:1
 returns-3 : tie.Need-returns-3
 returns-3 c = let x = c .before .args .c in value-none x (λ h k. omega arith) (λ h k. omega arith)
 
--- src/lib.rt:8:1
 returns-4 : tie.Need-returns-4
 returns-4 c = let x = c .before .before .before .args .c in value-none x (λ h k. omega arith) (λ h k. omega arith)
 
--- src/lib.rt:8:1
 returns-5 : tie.Need-returns-5
 returns-5 c = let x = c .before .before .before .before .args .c in value-none x (λ h k. omega arith) (λ h k. omega arith)
 
