@@ -309,6 +309,8 @@ pub record FedIs (d : Desk) (buf : List ℕ) (from : ℕ) (was out : List ℕ) (
   -- it moves where there are bytes and room for an answer, and else takes nothing
   pub moves : 30000 ≤ length was → from < length buf → from < r .upto
   pub stays : (30000 ≤ length was → from < length buf → ⊥) → (r .desk ≡ d) × (r .upto ≡ from) × (r .len ≡ 0)
+  -- an answer takes a byte or more of the input
+  pub few : r .len ≤ 30000 * (r .upto - from)
 
 pub fed-is : {d e : Desk} {buf was out : List ℕ} {from i at : ℕ} → Feeding d buf from was e i at out → (i < length buf → length was < at + 30000)
     → FedIs d buf from was out (record { desk = e; upto = i; len = at })
@@ -316,6 +318,7 @@ fed-is {d} {e} {buf} {was} {out} {from} {i} {at} F stop = record {
   feeds = rw (F .count, put-front (F .put)) (F .feeds);
   kept = rw (F .count) (put-rest (F .put));
   long = F .put .long;
+  few = F .few;
   fits = F .fits;
   after = F .after;
   within = F .within;
@@ -329,15 +332,6 @@ fed-is {d} {e} {buf} {was} {out} {from} {i} {at} F stop = record {
       (λ (a : i ≤ from). let z : i ≡ from = omega (arith, F .after) in (F .still z .0, z, F .still z .1))
       (lt-or-ge from i);
 }
-
--- the same, and that an answer takes a byte or more of the input
-pub record FeedIs (d : Desk) (buf : List ℕ) (from : ℕ) (was out : List ℕ) (r : Intake) : Type 0 where
-  pub fed : FedIs d buf from was out r
-  pub few : r .len ≤ 30000 * (r .upto - from)
-
-pub feed-is : {d e : Desk} {buf was out : List ℕ} {from i at : ℕ} → Feeding d buf from was e i at out → (i < length buf → length was < at + 30000)
-    → FeedIs d buf from was out (record { desk = e; upto = i; len = at })
-feed-is F stop = record { fed = fed-is F stop; few = F .few }
 
 -- ---- the last line, where it lacks its line feed
 
@@ -362,24 +356,24 @@ some-line : {s s′ : State} {said : List ℕ} (line : List ℕ) → 1 ≤ lengt
 some-line [] h x = absurd (omega arith)
 some-line (c ∷ line) h x = x
 
-module _ (d : Desk) {was out : List ℕ} {r : Intake} (F : FeedIs d (10 ∷ []) 0 was out r) where
-  pub feed-silent : length was < 30000 → Silent (d .state) was out (record { state = r .desk .state; len = r .len })
-  feed-silent h =
-      let x = F .fed .stays (λ k _. omega arith) in
-      record { stays = ap (λ (e : Desk). e .state) (x .0); none = x .2; same = rw (x .2) at (F .fed .kept) }
+module _ (d : Desk) {was out : List ℕ} {r : Intake} (F : FedIs d (10 ∷ []) 0 was out r) where
+  pub fed-silent : length was < 30000 → Silent (d .state) was out (record { state = r .desk .state; len = r .len })
+  fed-silent h =
+      let x = F .stays (λ k _. omega arith) in
+      record { stays = ap (λ (e : Desk). e .state) (x .0); none = x .2; same = rw (x .2) at (F .kept) }
 
-  pub feed-ended : 30000 ≤ length was → length (d .line .digits) ≡ 18 → (d .line .len ≡ 0 → ⊥) → Spoken (Ends d) was out (record { state = r .desk .state; len = r .len })
-  feed-ended h n f =
-      let m = F .fed .moves h (omega arith) in
-      let w = F .fed .within (omega arith) in
+  pub fed-ended : 30000 ≤ length was → length (d .line .digits) ≡ 18 → (d .line .len ≡ 0 → ⊥) → Spoken (Ends d) was out (record { state = r .desk .state; len = r .len })
+  fed-ended h n f =
+      let m = F .moves h (omega arith) in
+      let w = F .within (omega arith) in
       let u : r .upto ≡ 1 = omega arith in
       record {
         says = λ line L.
-            let x = F .fed .feeds .says line L in
+            let x = F .feeds .says line L in
             some-line line (long line L) (rw (u, whole-feed line 10 refl) at x);
-        kept = F .fed .kept;
+        kept = F .kept;
         fits = omega (arith, F .few);
-        long = F .fed .long;
+        long = F .long;
       }
     where
       long : (line : List ℕ) → LineIs line (d .line) → 1 ≤ length line

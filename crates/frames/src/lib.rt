@@ -27,7 +27,7 @@ ghost use Rattle.frames.specs.Heads.{HeadIs};
 ghost use Rattle.frames.specs.Told.{Answers, Spoken, kept};
 ghost use Rattle.frames.specs.Saying.{AnswerIs};
 ghost use Rattle.frames.specs.Answering.{WordIs, OrderIs, AskedIs};
-ghost use Rattle.frames.specs.Cutting.{CutIs, FeedIs, FedIs, EndedIs};
+ghost use Rattle.frames.specs.Cutting.{CutIs, FedIs, EndedIs};
 ghost use Rattle.frames.specs.Put.{Put, Digits, RowsPut};
 
 // The digits of a line, of which a frame has at most 18: len 19 stands for any longer line.
@@ -287,31 +287,11 @@ struct Head {
     count: usize,
 }
 
-// A refusal's number in the table.
-fn number_of(r: Refusal) -> u8
-    ensures { λ n. ⌜ n ≡ number r ⌝ }
-{
-    match r {
-        Refusal::BadMap => 1,
-        Refusal::BadBook => 2,
-        Refusal::OffMap => 3,
-        Refusal::OffDay => 4,
-        Refusal::NoPlan => 5,
-        Refusal::ShortList => 6,
-        Refusal::FullBook => 7,
-        Refusal::NoTickets => 8,
-        Refusal::UnknownTicket => 9,
-        Refusal::BadSize => 10,
-        Refusal::BadCursor => 11,
-        Refusal::BadFrame => 12,
-    }
-}
-
 fn refused_head(r: Refusal) -> Head
     ensures { λ h. ⌜ ((more : List ℕ) → HeadIs (after00 (number r) more) h) ⌝ }
 {
     Head {
-        bytes: [number_of(r); 9],
+        bytes: [r.number(); 9],
         count: 1,
     }
 }
@@ -412,25 +392,6 @@ fn page_head(p: Paged) -> Head
             }
         }
         Paged::Refused(r) => refused_head(r),
-    }
-}
-
-// How many row lines follow.
-fn plan_rows(p: Planned) -> usize
-    ensures { λ r. ⌜ r ≡ plannedCount p ⌝ }
-{
-    match p {
-        Planned::Done(t) => t.count,
-        Planned::Refused(_) => 0,
-    }
-}
-
-fn page_rows(p: Paged) -> usize
-    ensures { λ r. ⌜ r ≡ pagedCount p ⌝ }
-{
-    match p {
-        Paged::Done(s) => s.count,
-        Paged::Refused(_) => 0,
     }
 }
 
@@ -566,7 +527,7 @@ fn plan_frame(s: State, b: &[u8; 9], out: &mut [u8]) -> usize
     let mut list = [0u8; 14080];
     let p = planning::plan(m, book, start, destination, second, &mut list);
     let h = plan_head(p);
-    let rows = plan_rows(p);
+    let rows = p.count();
     put_answer(h, &list, rows, out)
 }
 
@@ -631,7 +592,7 @@ fn page_frame(s: State, b: &[u8; 9], out: &mut [u8]) -> usize
     let mut list = [0u8; 14080];
     let p = paging::page(m, book, size, cursor, &mut list);
     let h = page_head(p);
-    let rows = page_rows(p);
+    let rows = p.count();
     put_answer(h, &list, rows, out)
 }
 
@@ -770,9 +731,10 @@ pub struct Intake {
     pub len: usize,
 }
 
-// A line that leaves map and book as they are copies neither. An answer takes a byte or more of the input.
-fn feed(d: Desk, buf: &[u8], from: usize, out: &mut [u8]) -> Intake
-    ensures { λ r. ⌜ FeedIs d (now (buf .entry)) from (now (out .entry)) (now (out .exit)) r ⌝ }
+// The answers of the lines that the bytes from an index on end, as long as the caller's list has room for one more. A line that leaves map and book
+// as they are copies neither.
+pub fn fed(d: Desk, buf: &[u8], from: usize, out: &mut [u8]) -> Intake
+    ensures { λ r. ⌜ FedIs d (now (buf .entry)) from (now (out .entry)) (now (out .exit)) r ⌝ }
 {
     let mut s = d.state;
     let mut begun = d.line;
@@ -829,13 +791,6 @@ fn feed(d: Desk, buf: &[u8], from: usize, out: &mut [u8]) -> Intake
     }
 }
 
-// The answers of the lines that the bytes from an index on end, as long as the caller's list has room for one more.
-pub fn fed(d: Desk, buf: &[u8], from: usize, out: &mut [u8]) -> Intake
-    ensures { λ r. ⌜ FedIs d (now (buf .entry)) from (now (out .entry)) (now (out .exit)) r ⌝ }
-{
-    feed(d, buf, from, out)
-}
-
 // The last line, where it lacks its line feed: it is fed one.
 pub fn ended(d: Desk, out: &mut [u8]) -> Told
     ensures { λ r. ⌜ EndedIs d (now (out .entry)) (now (out .exit)) r ⌝ }
@@ -846,7 +801,7 @@ pub fn ended(d: Desk, out: &mut [u8]) -> Told
         return Told { state: s, len: 0 };
     }
     let line_feed = [10u8; 1];
-    let f = feed(d, &line_feed, 0, out);
+    let f = fed(d, &line_feed, 0, out);
     let after = f.desk;
     let s = after.state;
     Told {

@@ -7,7 +7,7 @@ use lib.ListN.{length}
 use borrow.Author.Needs.{needs}
 use Rattle.laws.specs.Order.{lt-or-ge}
 use Rattle.frames.specs.Told.{silent}
-use Rattle.frames.specs.Cutting.{nothing-begun, feed-silent, feed-ended}
+use Rattle.frames.specs.Cutting.{nothing-begun, fed-silent, fed-ended}
 use Rattle.frames.proofs.ended.Statement.{statement}
 use Rattle.frames.proofs.ended.Tie as tie
 
@@ -22,11 +22,11 @@ returns c =
     (λ (h : 30000 ≤ length (a .out .now)). inr (h, nothing-begun (a .d) (a .out .now) (c .before .if1 .taken)))
     (lt-or-ge (length (a .out .now)) 30000)
 
-slice-aggregate-feed : tie.Need-slice-aggregate-feed
-slice-aggregate-feed c = search needs
+slice-aggregate-fed : tie.Need-slice-aggregate-fed
+slice-aggregate-fed c = search needs
 
-feed-requires : tie.Need-feed-requires
-feed-requires c κs = search needs
+fed-requires : tie.Need-fed-requires
+fed-requires c κs = search needs
 
 same-length : tie.Need-same-length
 same-length c = search needs
@@ -35,11 +35,11 @@ returns-2 : tie.Need-returns-2
 returns-2 c =
     let s = c .before .before .before .before .before .before .before .before .before .before .before in
     let a = s .args in
-    let f = c .before .before .before .before .feed .ensures in
+    let f = c .before .before .before .before .fed .ensures in
     ⊎-elim
-    (λ (h : length (a .out .now) < 30000). inl ((λ k. omega arith), feed-silent (a .d) f h))
-    (λ (h : 30000 ≤ length (a .out .now)). inr (h, feed-ended (a .d) f h (long-digits s) (c .before .before .before .before .before .before .before .if1 .left)))
+    (λ (h : length (a .out .now) < 30000). inl ((λ k. omega arith), fed-silent (a .d) f h))
+    (λ (h : 30000 ≤ length (a .out .now)). inr (h, fed-ended (a .d) f h (long-digits s) (c .before .before .before .before .before .before .before .if1 .left)))
     (lt-or-ge (length (a .out .now)) 30000)
 
 pub ended-spec : {M : Type 1} → statement M
-ended-spec = tie.close (tie.spec returns slice-aggregate-feed feed-requires same-length returns-2)
+ended-spec = tie.close (tie.spec returns slice-aggregate-fed fed-requires same-length returns-2)

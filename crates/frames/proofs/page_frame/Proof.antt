@@ -34,8 +34,8 @@ page-requires c κs = search needs
 page-head-requires : tie.Need-page-head-requires
 page-head-requires c κs = omega (arith, page-few (c .before .page .ensures))
 
-page-rows-requires : tie.Need-page-rows-requires
-page-rows-requires c κs = search needs
+count-requires : tie.Need-count-requires
+count-requires c κs = search needs
 
 slice-aggregate-put-answer : tie.Need-slice-aggregate-put-answer
 slice-aggregate-put-answer c = search needs
@@ -44,7 +44,7 @@ put-answer-requires : tie.Need-put-answer-requires
 put-answer-requires c κs =
     let k : length (c .before .before .before .before .before .page .last .1 .1 .1 .1 .0) ≡ 14080 = c .before .before .before .before .before .page .kept .1 .1 .1 .1 .0 in
     let f = page-few (c .before .before .before .before .before .page .ensures) in
-    ((c .before .before .before .page-head .ensures .fits, c .before .before .before .page-head .ensures .long), (omega (arith, c .before .before .page-rows .ensures), omega (arith, c .before .before .page-rows .ensures)))
+    ((c .before .before .before .page-head .ensures .fits, c .before .before .before .page-head .ensures .long), (omega (arith, c .before .before .count .ensures), omega (arith, c .before .before .count .ensures)))
 
 same-length : tie.Need-same-length
 same-length c = search needs
@@ -54,7 +54,7 @@ returns c =
     let a = c .before .before .before .before .before .before .before .before .before .before .before .before .before .before .before .before .before .before .before .before .before .args in
     let p = c .before .before .before .before .before .before .before .before .page in
     let h = c .before .before .before .before .before .before .page-head in
-    let n = c .before .before .before .before .before .page-rows in
+    let n = c .before .before .before .before .before .count in
     let k : length (p .last .1 .1 .1 .1 .0) ≡ 14080 = p .kept .1 .1 .1 .1 .0 in
     let f = page-few (p .ensures) in
     page-frame (a .s) (a .b .now) (h .result) (p .result) (p .last .1 .1 .1 .1 .0) (n .result)
@@ -74,7 +74,7 @@ page-frame-spec =
     slice-aggregate-page
     page-requires
     page-head-requires
-    page-rows-requires
+    count-requires
     slice-aggregate-put-answer
     put-answer-requires
     same-length

@@ -33,8 +33,8 @@ plan-requires c κs = search needs
 plan-head-requires : tie.Need-plan-head-requires
 plan-head-requires c κs = search needs
 
-plan-rows-requires : tie.Need-plan-rows-requires
-plan-rows-requires c κs = search needs
+count-requires : tie.Need-count-requires
+count-requires c κs = search needs
 
 slice-aggregate-put-answer : tie.Need-slice-aggregate-put-answer
 slice-aggregate-put-answer c = search needs
@@ -43,7 +43,7 @@ put-answer-requires : tie.Need-put-answer-requires
 put-answer-requires c κs =
     let k : length (c .before .before .before .before .before .plan .last .1 .1 .1 .1 .1 .0) ≡ 14080 = c .before .before .before .before .before .plan .kept .1 .1 .1 .1 .1 .0 in
     let f = plan-few (c .before .before .before .before .before .plan .ensures) (length-replicate {A = ℕ} 14080 0) in
-    ((c .before .before .before .plan-head .ensures .fits, c .before .before .before .plan-head .ensures .long), (omega (arith, c .before .before .plan-rows .ensures), omega (arith, c .before .before .plan-rows .ensures)))
+    ((c .before .before .before .plan-head .ensures .fits, c .before .before .before .plan-head .ensures .long), (omega (arith, c .before .before .count .ensures), omega (arith, c .before .before .count .ensures)))
 
 same-length : tie.Need-same-length
 same-length c = search needs
@@ -53,7 +53,7 @@ returns c =
     let a = c .before .before .before .before .before .before .before .before .before .before .before .before .before .before .before .before .before .before .before .args in
     let p = c .before .before .before .before .before .before .before .before .plan in
     let h = c .before .before .before .before .before .before .plan-head in
-    let n = c .before .before .before .before .before .plan-rows in
+    let n = c .before .before .before .before .before .count in
     let k : length (p .last .1 .1 .1 .1 .1 .0) ≡ 14080 = p .kept .1 .1 .1 .1 .1 .0 in
     let f = plan-few (p .ensures) (length-replicate {A = ℕ} 14080 0) in
     plan-frame (a .s) (a .b .now) (h .result) (p .result) (p .last .1 .1 .1 .1 .1 .0) (n .result)
@@ -72,7 +72,7 @@ plan-frame-spec =
     slice-aggregate-plan
     plan-requires
     plan-head-requires
-    plan-rows-requires
+    count-requires
     slice-aggregate-put-answer
     put-answer-requires
     same-length

@@ -4,11 +4,11 @@ use Rattle.frames.specs.Heads.{refused-head}
 use Rattle.frames.proofs.refused_head.Statement.{statement}
 use Rattle.frames.proofs.refused_head.Tie as tie
 
-number-of-requires : tie.Need-number-of-requires
-number-of-requires c κs = search needs
+number-requires : tie.Need-number-requires
+number-requires c κs = search needs
 
 returns : tie.Need-returns
-returns c = λ more. refused-head (c .before .args .r) more (c .number-of .ensures)
+returns c = λ more. refused-head (c .before .args .r) more (c .number .ensures)
 
 pub refused-head-spec : {M : Type 1} → statement M
-refused-head-spec = tie.close (tie.spec number-of-requires returns)
+refused-head-spec = tie.close (tie.spec number-requires returns)

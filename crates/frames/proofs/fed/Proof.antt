@@ -1,13 +1,13 @@
--- `frames::feed` meets its contract: each turn takes the bytes to the next line feed and puts the line's answer behind those there are, while there is room.
+-- `frames::fed` meets its contract: each turn takes the bytes to the next line feed and puts the line's answer behind those there are, while there is room.
 use Prim.Native.Nat.{_-_, _<_}
 use mathlib.Core.Path.{sym, _∙_}
 use native.Mathlib.Omega.{arith}
 use lib.ListN.{length}
 use borrow.Author.Needs.{needs}
 use borrow.Author.Tests.{not-true, not-false}
-use Rattle.frames.specs.Cutting.{Feeding, feeding-start, feeding-next, feed-is, step-going, step-answered}
-use Rattle.frames.proofs.feed.Statement.{statement}
-use Rattle.frames.proofs.feed.Tie as tie
+use Rattle.frames.specs.Cutting.{Feeding, feeding-start, feeding-next, fed-is, step-going, step-answered}
+use Rattle.frames.proofs.fed.Statement.{statement}
+use Rattle.frames.proofs.fed.Tie as tie
 
 abbrev Inv-loop : tie.InvT-loop
 Inv-loop buf from out₀ s₀ begun₀ i₀ at₀ out s begun i at = Feeding (record { state = s₀; line = begun₀ }) buf from out₀ (record { state = s; line = begun }) i at out
@@ -28,7 +28,7 @@ same-length : tie.Need-same-length Inv-loop μ-loop
 same-length c = c .before .before .loop .inv .put .long
 
 returns : tie.Need-returns Inv-loop μ-loop
-returns c = feed-is (c .before .before .loop .inv) (λ h. omega (arith, c .before .before .loop .inv .fits, c .before .before .loop .inv .put .long))
+returns c = fed-is (c .before .before .loop .inv) (λ h. omega (arith, c .before .before .loop .inv .fits, c .before .before .loop .inv .put .long))
 
 take-line-requires : tie.Need-take-line-requires Inv-loop μ-loop
 take-line-requires c κs = omega arith
@@ -41,7 +41,7 @@ returns-2 c =
     let l = c .before .before .before .before .before .before .loop in
     let t = c .before .before .before .take-line in
     let e = not-true (t .result .ended) (c .if2 .taken) in
-    feed-is (feeding-next (l .inv) (omega arith) (omega (arith, l .inv .fits, l .inv .put .long)) (step-going _ _ _ _ _ (t .ensures) e))
+    fed-is (feeding-next (l .inv) (omega arith) (omega (arith, l .inv .fits, l .inv .put .long)) (step-going _ _ _ _ _ (t .ensures) e))
     (λ h. absurd (omega (arith, t .ensures .all e)))
 
 word-of-requires : tie.Need-word-of-requires Inv-loop μ-loop
@@ -125,10 +125,10 @@ same-length-3 : tie.Need-same-length-3 Inv-loop μ-loop
 same-length-3 c = c .before .loop .inv .put .long
 
 returns-3 : tie.Need-returns-3 Inv-loop μ-loop
-returns-3 c = feed-is (c .before .loop .inv) (λ h. absurd (omega arith))
+returns-3 c = fed-is (c .before .loop .inv) (λ h. absurd (omega arith))
 
-pub feed-spec : {M : Type 1} → statement M
-feed-spec =
+pub fed-spec : {M : Type 1} → statement M
+fed-spec =
     tie.close
     (tie.spec
     Inv-loop
