@@ -100,9 +100,6 @@ goes-by key next b e f h = flat b f (e ∙ eq-eqb next (placeOf key) h)
     flat true f g = not-both f refl
     flat false f g = not-both g refl
 
-pub goes-no : (key next : ℕ) (b : Bool) → b ≡ eqb next (placeOf key) → b ≡ false → IsLast key next → ⊥
-goes-no key next b e f h = not-both (e ∙ eq-eqb next (placeOf key) h) f
-
 pub last-by : (key next : ℕ) (b : Bool) → b ≡ eqb next (placeOf key) → not b ≡ false → IsLast key next
 last-by key next b e f = eqb-true next (placeOf key) (sym e ∙ flat b f)
   where

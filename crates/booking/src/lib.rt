@@ -9,7 +9,6 @@ use rules::Issued;
 use rules::Map;
 use rules::Refusal;
 ghost use mathlib.Core.Path.{_≡_};
-ghost use mathlib.Core.Bool.{true, false};
 ghost use Prim.Native.Nat.{ℕ};
 ghost use lib.ListN.{length, take};
 ghost use Rattle.laws.specs.Lists.{at};

@@ -1,11 +1,10 @@
 -- Arrays that were read off a map and a book by value: what is said of the arrays is said of these.
 use Prim.Native.Nat.{ℕ}
-use mathlib.Core.Path.{_≡_, refl, sym, subst}
+use mathlib.Core.Path.{_≡_, sym, subst}
 use mathlib.Core.List.{List}
 use lib.ListN.{length}
 use Rattle.rules.specs.declared.Map.{Map}
 use Rattle.rules.specs.declared.Book.{Book}
-use Rattle.rules.specs.declared.Row.{Row}
 use Rattle.rules.specs.declared.Planned.{Planned}
 use Rattle.rules.specs.declared.Paged.{Paged}
 use Rattle.rules.specs.Map.{Yard, GoodMap, mapYard, MapRules}

@@ -1,25 +1,23 @@
 -- What the planning call answers at each of its ends.
-use Prim.Native.Nat.{ℕ, suc, _+_, _-_, _*_, _/_, _≤_, _<_}
-use mathlib.Core.Path.{_≡_, refl, sym, ap, subst, _∙_}
-use mathlib.Core.Logic.{_⊎_, inl, inr, ⊎-elim}
+use Prim.Native.Nat.{ℕ, suc, _-_, _≤_, _<_}
+use mathlib.Core.Path.{_≡_, refl, sym, ap, _∙_}
+use mathlib.Core.Logic.{inl, inr}
 use mathlib.Core.List.{List}
 use native.Mathlib.Omega.{arith}
 use lib.ListN.{length, take}
 use lib.Seq.{length-take-le, getD-take}
 use Rattle.laws.specs.Lists.{at}
 use Rattle.rules.specs.declared.Row.{Row}
-use Rattle.rules.specs.declared.Planned.{Planned}
 use Rattle.rules.specs.declared.Planned.the-variants.{Done, Refused}
 use Rattle.rules.specs.declared.Refusal.the-variants.{BadMap, BadBook, OffMap, OffDay, NoPlan, ShortList}
 use Rattle.rules.specs.Map.{Yard}
 use Rattle.rules.specs.Rows.{load, rowAt}
 use Rattle.rules.specs.Plan.{Stay, Permitted, arrival, runRows}
 use Rattle.rules.specs.Chosen.{Chosen}
-use Rattle.rules.specs.Answer.{PlanSays, PlanSound, PlanRefused, Unless, written, records}
+use Rattle.rules.specs.Answer.{PlanSays, PlanSound, written, records}
 use Rattle.lanes.specs.Yards.{YardRules}
 use Rattle.lanes.specs.Chosen.{chosen-best}
 use Rattle.flat.specs.Links.{group-place}
-use Rattle.search.specs.Lanes.{Lanes, lanes-ground}
 use Rattle.search.specs.Relax.{Ground}
 use Rattle.planner.specs.Choice.{planOf}
 use Rattle.planner.specs.Route.{Routed, PathFits, plan-long, last-arrives, row-last}

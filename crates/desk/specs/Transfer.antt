@@ -1,7 +1,7 @@
 -- A contract carried over from the arrays to what they stand for: where map and book are sound in the one form exactly when they are in the other.
 use Prim.Native.Nat.{ℕ}
 use mathlib.Core.Path.{_≡_, subst₂}
-use mathlib.Core.Logic.{_⊎_, inl, inr, ⊎-elim}
+use mathlib.Core.Logic.{inl, inr, ⊎-elim}
 use mathlib.Core.List.{List}
 use Rattle.rules.specs.declared.Row.{Row}
 use Rattle.rules.specs.declared.Planned.{Planned}

@@ -1,18 +1,18 @@
 -- A crossing among rows stands at an index.
-use Prim.Native.Nat.{ℕ, zero, suc, _≤_, _<_}
-use mathlib.Core.Path.{_≡_, refl, sym, ap, subst, _∙_}
+use Prim.Native.Nat.{ℕ, zero, suc, _<_}
+use mathlib.Core.Path.{_≡_, sym, ap, _∙_}
 use mathlib.Core.Logic.{_⊎_, inl, inr, ⊎-elim}
-use mathlib.Core.Bool.{Bool, true, false, _&&_, _||_}
+use mathlib.Core.Bool.{true, false, _&&_}
 use mathlib.Core.List.{List, [], _∷_}
 use native.Mathlib.Omega.{arith}
-use lib.ListN.{length, getD}
+use lib.ListN.{length}
 use lib.Dec.{eqb}
 use borrow.Author.Tests.{eqb-true, eq-eqb}
-use Rattle.laws.specs.Tests.{true-or-false, not-both, and-in, and-l, and-r, or-out, or-l, or-r}
-use Rattle.laws.specs.Lists.{at, tabulate}
+use Rattle.laws.specs.Tests.{true-or-false, and-in, and-l, and-r, or-out, or-l, or-r}
+use Rattle.laws.specs.Lists.{at}
 use Rattle.rules.specs.declared.Row.{Row}
-use Rattle.rules.specs.Rows.{noRow, rowAt, crosses}
-use Rattle.flat.specs.Flat.{rowsIn, rowOf, placeOf}
+use Rattle.rules.specs.Rows.{rowAt, crosses}
+use Rattle.flat.specs.Flat.{rowsIn, placeOf}
 use Rattle.flat.specs.Laws.{rows-long, row-in}
 
 -- row number `at` goes from p to q at t

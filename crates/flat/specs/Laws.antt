@@ -1,21 +1,17 @@
 -- Laws of the arrays' views.
-use Prim.Native.Nat.{ℕ, zero, suc, _+_, _-_, _*_, _/_, _%_, _≤_, _<_}
-use mathlib.Core.Path.{_≡_, refl, sym, ap, subst, _∙_}
-use mathlib.Core.Logic.{_⊎_, inl, inr, ⊎-elim}
-use mathlib.Core.Bool.{Bool, true, false}
+use Prim.Native.Nat.{ℕ, zero, suc, _+_, _≤_, _<_}
+use mathlib.Core.Path.{_≡_, refl, sym, ap, _∙_}
+use mathlib.Core.Logic.{⊎-elim}
 use mathlib.Core.List.{List}
 use native.Mathlib.Omega.{arith}
-use lib.ListN.{length, getD, List·getD-eq-default}
-use lib.Dec.{eqb}
-use borrow.Author.Tests.{eqb-true, eqb-false, eq-eqb, ne-eqb}
+use lib.ListN.{length}
+use borrow.Author.Tests.{eq-eqb, ne-eqb}
 use Rattle.laws.specs.Order.{lt-or-ge, eq-or-ne}
-use Rattle.laws.specs.Lists.{at, tabulate, length-tabulate, getD-tabulate}
+use Rattle.laws.specs.Lists.{at, length-tabulate, getD-tabulate}
 use Rattle.rules.specs.declared.Place.{Place}
-use Rattle.rules.specs.declared.Link.{Link}
-use Rattle.rules.specs.declared.Row.{Row}
-use Rattle.rules.specs.Map.{Yard, yardOf, MapRules, noPlace, placeAt, noLink, linkAt}
+use Rattle.rules.specs.Map.{MapRules, noPlace, placeAt, noLink, linkAt}
 use Rattle.rules.specs.Rows.{noRow, rowAt}
-use Rattle.lanes.specs.Yards.{YardRules, yard-rules}
+use Rattle.lanes.specs.Yards.{yard-rules}
 use Rattle.flat.specs.Flat.{placesIn, linksIn, yardIn, Of, lastBefore, rowOf, rowsIn, placeOf, entryOf, ticketOf, keyOf}
 
 pub places-long : (C D : List ℕ) (n : ℕ) → length (placesIn C D n) ≡ n

@@ -1,19 +1,19 @@
 -- Links by index, and the windows or rows of a place by index.
 use Prim.Native.Nat.{ℕ, zero, suc, _+_, _≤_, _<_}
-use mathlib.Core.Path.{_≡_, refl, sym, ap, subst, _∙_}
+use mathlib.Core.Path.{_≡_, sym, ap, _∙_}
 use mathlib.Core.Logic.{_⊎_, inl, inr, ⊎-elim}
 use mathlib.Core.Bool.{Bool, true, false, _&&_, _||_}
 use mathlib.Core.List.{List, [], _∷_}
 use native.Mathlib.Omega.{arith}
-use lib.ListN.{length, getD}
+use lib.ListN.{length}
 use lib.Dec.{eqb, leb}
 use borrow.Author.Tests.{eqb-true, leb-true, eq-eqb, le-leb}
-use Rattle.laws.specs.Order.{lt-or-ge, eq-or-ne}
+use Rattle.laws.specs.Order.{lt-or-ge}
 use Rattle.laws.specs.Tests.{and-in, and-l, and-r, or-out, or-l, or-r}
 use Rattle.laws.specs.Lists.{at}
 use Rattle.rules.specs.declared.Link.{Link}
 use Rattle.rules.specs.Map.{linkAt, linked}
-use Rattle.lanes.specs.Yards.{LinkAt, linked-at}
+use Rattle.lanes.specs.Yards.{linked-at}
 use Rattle.flat.specs.Flat.{linksIn, Grouped}
 use Rattle.flat.specs.Laws.{links-long, link-in}
 

@@ -1,11 +1,10 @@
 -- A book read into arrays, or given 1,025 rows where it could not be: it is well formed there exactly where the book is good.
-use Prim.Native.Nat.{ℕ, _≤_, _<_}
+use Prim.Native.Nat.{ℕ}
 use mathlib.Core.Path.{_≡_, refl, sym, ap, subst, _∙_}
-use mathlib.Core.Logic.{_⊎_, inl, inr, ⊎-elim}
+use mathlib.Core.Logic.{⊎-elim}
 use mathlib.Core.Bool.{Bool, true, false}
 use mathlib.Core.List.{List}
 use native.Mathlib.Omega.{arith}
-use lib.ListN.{length}
 use Rattle.laws.specs.Tests.{true-or-false, not-both}
 use Rattle.rules.specs.declared.Book.{Book}
 use Rattle.rules.specs.Map.{Yard}

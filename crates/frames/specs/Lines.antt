@@ -24,9 +24,6 @@ pub record LineIs (line : List ℕ) (l : Line) : Type 0 where
   pub short : l .len ≤ 18 → line ≡ take (l .len) (l .digits)
   pub long : 18 < l .len → 18 < length line
 
-pub line-empty : (l : Line) → l .len ≡ 0 → LineIs [] l
-line-empty l e = record { short = λ h. rw e; long = λ h. absurd (omega arith) }
-
 pub push-short : (l : Line) (c : ℕ) → length (l .digits) ≡ 18 → l .len < 18 → (line : List ℕ) → LineIs line l
     → LineIs (line ++ (c ∷ [])) (record { digits = set (l .digits) (l .len) c; len = l .len + 1 })
 push-short l c n h line L = record {

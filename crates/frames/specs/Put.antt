@@ -5,8 +5,8 @@ use mathlib.Core.Path.{_≡_, refl, sym, ap, _∙_}
 use mathlib.Core.List.{List, [], _∷_, _++_, append-assoc, append-nil}
 use native.Mathlib.Omega.{arith}
 use native.Mathlib.Numerals.{add-one}
-use lib.ListN.{length, getD, take, drop, set, length-append, length-take, length-drop, take-append-drop}
-use lib.Seq.{take-suc, drop-cons, getD-drop, take-at, drop-at, drop-drop, length-take-le, sets-eq, sets, length-sets, take-all}
+use lib.ListN.{length, getD, take, drop, set, length-append, length-drop, take-append-drop}
+use lib.Seq.{take-suc, getD-drop, take-at, drop-at, drop-drop, length-take-le, sets-eq, sets, length-sets}
 use Rattle.rules.specs.Frames.{digit, hexOf, lineOf, rowLines}
 use Rattle.unique.specs.Hex.{hex-length, hex-append}
 

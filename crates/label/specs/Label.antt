@@ -1,6 +1,6 @@
 -- Label setting with predecessors, once and for all: nodes are numbers below n, and next w v e is the least entry into v of who entered w at e,
 -- or top or more where there is none.
-use Prim.Native.Nat.{ℕ, zero, suc, _+_, _-_, _≤_, _<_, min}
+use Prim.Native.Nat.{ℕ, suc, _≤_, _<_, min}
 use mathlib.Core.Path.{_≡_, refl, sym, ap, subst, _∙_}
 use mathlib.Core.Logic.{_⊎_, inl, inr, ⊎-elim}
 use mathlib.Core.Bool.{Bool, true, false}
@@ -133,10 +133,6 @@ module _ (n top src s : ℕ) (next : ℕ → ℕ → ℕ → ℕ) where
       pub at-ge : {v t : ℕ} → At v t → s ≤ t
       at-ge here = omega arith
       at-ge (on {w} {e} v x a h q k) = omega (arith, at-ge a, later w v e (at-in a) (at-lt s-in a))
-
-      -- a settled node, the source or a node of best so far: nothing yields the source's entry
-      pub src-none : {w x : ℕ} → First w x → next w src x ≡ s → ⊥
-      src-none {w} {x} f e = omega (arith, at-ge (f .at), later w src x (at-in (f .at)) (at-lt s-in (f .at)))
 
       module _ {done : ℕ → Bool} {dist bef : ℕ → ℕ} (I : Inv done dist bef) where
         -- where no open node is entered before b ..

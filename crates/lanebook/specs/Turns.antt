@@ -1,11 +1,11 @@
 -- One turn of the program: no byte of a read is left out and none is taken twice.
 use Prim.Native.Nat.{ℕ, _≤_}
-use mathlib.Core.Path.{_≡_, refl, ap}
+use mathlib.Core.Path.{_≡_}
 use mathlib.Core.Bool.{true, false}
 use mathlib.Core.List.{List, [], _++_}
 use mathlib.Core.Logic.{⊎-elim}
 use native.Mathlib.Omega.{arith}
-use lib.ListN.{length, take, drop}
+use lib.ListN.{length, take}
 use lib.Seq.{slice, slice-empty, take-all}
 use Rattle.frames.specs.declared.Desk.{Desk}
 use Rattle.frames.specs.declared.Intake.{Intake}

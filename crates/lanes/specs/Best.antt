@@ -1,21 +1,19 @@
 -- A permitted plan's last stay enters a window of the destination, and each reached entry makes a plan.
-use Prim.Native.Nat.{ℕ, zero, suc, _+_, _-_, _≤_, _<_}
-use mathlib.Core.Path.{_≡_, refl, sym, ap, ap₂, subst, subst₂, _∙_}
-use mathlib.Core.Logic.{_⊎_, inl, inr, ⊎-elim}
-use mathlib.Core.Bool.{Bool, true, false, _&&_, _||_}
-use mathlib.Core.List.{List, [], _∷_}
+use Prim.Native.Nat.{ℕ, suc, _+_, _-_, _≤_, _<_}
+use mathlib.Core.Path.{_≡_, refl, ap, subst₂, _∙_}
+use mathlib.Core.Logic.{⊎-elim}
+use mathlib.Core.List.{List}
 use native.Mathlib.Omega.{arith}
-use lib.ListN.{length, getD}
+use lib.ListN.{length}
 use Rattle.rules.specs.declared.Row.{Row}
-use Rattle.rules.specs.Limits.{day}
 use Rattle.rules.specs.Map.{Yard}
-use Rattle.rules.specs.Rows.{covers, bit, load, crosses}
-use Rattle.rules.specs.Plan.{Stay, noStay, stayAt, held, Plan, Permitted, arrival}
+use Rattle.rules.specs.Rows.{load}
+use Rattle.rules.specs.Plan.{Stay, stayAt, Permitted, arrival}
 use Rattle.laws.specs.Order.{lt-or-ge}
-use Rattle.rules.specs.Window.{Free, Window, Span, Step, Enters, Earliest}
+use Rattle.rules.specs.Window.{Window, Span, Enters, Earliest}
 use Rattle.lanes.specs.Yards.{YardRules}
 use Rattle.lanes.specs.Stays.{arrival-last, arrival-cons}
-use Rattle.lanes.specs.Windows.{In, stay-in}
+use Rattle.lanes.specs.Windows.{stay-in}
 use Rattle.lanes.specs.Reach.{Reach, begin, go, plan-reach, Enter, Soonest}
 use Rattle.lanes.specs.Made.{alone, in-front}
 

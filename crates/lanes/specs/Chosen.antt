@@ -1,17 +1,14 @@
 -- The chosen plan is permitted, none arrives sooner, and there is no second.
-use Prim.Native.Nat.{ℕ, zero, suc, _+_, _-_, _≤_, _<_}
-use mathlib.Core.Path.{_≡_, refl, sym, ap, ap₂, subst, subst₂, _∙_}
-use mathlib.Core.Logic.{_⊎_, inl, inr, ⊎-elim}
-use mathlib.Core.Bool.{Bool, true, false, _&&_, _||_}
+use Prim.Native.Nat.{ℕ, _+_, _≤_, _<_}
+use mathlib.Core.Path.{_≡_, refl, sym, subst₂, _∙_}
+use mathlib.Core.Bool.{true}
 use mathlib.Core.List.{List, [], _∷_}
 use native.Mathlib.Omega.{arith}
-use lib.ListN.{length, getD}
 use Rattle.rules.specs.declared.Row.{Row}
-use Rattle.rules.specs.Limits.{day}
 use Rattle.rules.specs.Map.{Yard}
-use Rattle.rules.specs.Rows.{covers, bit, load, crosses}
-use Rattle.rules.specs.Plan.{Stay, noStay, stayAt, held, Plan, Permitted, arrival}
-use Rattle.rules.specs.Window.{Free, Window, Span, Step, Enters, Earliest, Yields}
+use Rattle.rules.specs.Rows.{load}
+use Rattle.rules.specs.Plan.{Stay, Permitted, arrival}
+use Rattle.rules.specs.Window.{Window, Span}
 use Rattle.rules.specs.Chosen.{LexLe, Goal, Prior, Back, first, prior, Chosen}
 use Rattle.lanes.specs.Stays.{arrival-cons}
 use Rattle.lanes.specs.Windows.{same-window}

@@ -1,8 +1,7 @@
 -- The labels of a search as earliest entries: what it knows of its nodes, it knows of the windows.
-use Prim.Native.Nat.{ℕ, suc, _+_, _≤_, _<_}
+use Prim.Native.Nat.{ℕ, suc, _≤_, _<_}
 use mathlib.Core.Path.{_≡_}
 use mathlib.Core.Logic.{_⊎_, inl, inr, ⊎-elim}
-use mathlib.Core.Bool.{Bool, true, false}
 use mathlib.Core.List.{List}
 use native.Mathlib.Omega.{arith}
 use Rattle.laws.specs.Order.{lt-or-ge}
@@ -10,7 +9,7 @@ use Rattle.rules.specs.declared.Row.{Row}
 use Rattle.rules.specs.Limits.{day}
 use Rattle.rules.specs.Map.{Yard}
 use Rattle.rules.specs.Rows.{load}
-use Rattle.rules.specs.Window.{Window, Span, Enters, Earliest, Entries}
+use Rattle.rules.specs.Window.{Span, Enters, Earliest, Entries}
 use Rattle.lanes.specs.Yards.{YardRules}
 use Rattle.lanes.specs.Reach.{next, Enter}
 use Rattle.lanes.specs.Nodes.{Windows, enter-node, first-soonest}

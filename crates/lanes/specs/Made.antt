@@ -1,20 +1,19 @@
 -- From reached entries back to a plan: a permitted plan grows at its front, and a list is made.
-use Prim.Native.Nat.{ℕ, zero, suc, _+_, _-_, _≤_, _<_}
-use mathlib.Core.Path.{_≡_, refl, sym, ap, subst, _∙_}
-use mathlib.Core.Logic.{_⊎_, inl, inr, ⊎-elim}
-use mathlib.Core.Bool.{Bool, true, false}
+use Prim.Native.Nat.{ℕ, zero, suc, _+_, _≤_, _<_}
+use mathlib.Core.Path.{_≡_, refl, sym, subst}
+use mathlib.Core.Logic.{⊎-elim}
+use mathlib.Core.Bool.{true, false}
 use mathlib.Core.List.{List, [], _∷_}
 use native.Mathlib.Omega.{arith}
-use lib.ListN.{length, getD}
-use Rattle.laws.specs.Order.{lt-or-ge, eq-or-ne}
-use Rattle.laws.specs.Tests.{true-or-false, not-both}
+use lib.ListN.{length}
+use Rattle.laws.specs.Tests.{true-or-false}
 use Rattle.rules.specs.declared.Row.{Row}
 use Rattle.rules.specs.Limits.{day}
 use Rattle.rules.specs.Map.{Yard}
-use Rattle.rules.specs.Rows.{covers, bit, load, crosses}
-use Rattle.rules.specs.Plan.{Stay, noStay, stayAt, held, Plan, Permitted, arrival}
+use Rattle.rules.specs.Rows.{covers, load, crosses}
+use Rattle.rules.specs.Plan.{Stay, stayAt, held, Permitted}
 use Rattle.rules.specs.Window.{Free}
-use Rattle.lanes.specs.Stays.{stay-safe, covers-out, bit-true, bit-false}
+use Rattle.lanes.specs.Stays.{covers-out, bit-true, bit-false}
 use Rattle.lanes.specs.Reach.{Reach, begin, go}
 
 pub covers-early : (place entry exit p t : ℕ) → t < entry → covers place entry exit p t ≡ false

@@ -1,21 +1,16 @@
 -- The windows as the nodes of the search: first entries there are earliest entries here.
-use Prim.Native.Nat.{ℕ, zero, suc, _+_, _-_, _≤_, _<_}
-use mathlib.Core.Path.{_≡_, refl, sym, ap, ap₂, subst, subst₂, _∙_}
-use mathlib.Core.Logic.{_⊎_, inl, inr, ⊎-elim}
-use mathlib.Core.Bool.{Bool, true, false, _&&_, _||_}
-use mathlib.Core.List.{List, [], _∷_}
+use Prim.Native.Nat.{ℕ, suc, _≤_, _<_}
+use mathlib.Core.Path.{_≡_, refl, sym, ap, subst, _∙_}
+use mathlib.Core.Logic.{⊎-elim}
+use mathlib.Core.List.{List}
 use native.Mathlib.Omega.{arith}
-use lib.ListN.{length, getD}
-use Rattle.laws.specs.Order.{lt-or-ge, eq-or-ne, strong}
-use Rattle.laws.specs.Tests.{true-or-false, not-both}
+use Rattle.laws.specs.Order.{lt-or-ge, strong}
 use Rattle.rules.specs.declared.Row.{Row}
 use Rattle.rules.specs.Limits.{day}
 use Rattle.rules.specs.Map.{Yard}
-use Rattle.rules.specs.Rows.{covers, bit, load, crosses}
-use Rattle.rules.specs.Plan.{Stay, noStay, stayAt, held, Plan, Permitted, arrival}
-use Rattle.rules.specs.Window.{Free, Window, Span, Step}
-use Rattle.lanes.specs.Windows.{In, window-of, same-window, ends}
-use Rattle.lanes.specs.Reach.{step-mono, next, next-low, next-step, next-top, Reach, begin, Enter, fifo, Before, came, Soonest, reach-from}
+use Rattle.rules.specs.Window.{Window, Span, Step}
+use Rattle.lanes.specs.Windows.{same-window}
+use Rattle.lanes.specs.Reach.{step-mono, next, next-low, next-step, next-top, Enter, fifo, Before, came, Soonest}
 use Rattle.label.specs.Label.{At, here, on, First}
 
 -- all free windows, each once, in order of place and start
@@ -36,10 +31,6 @@ module _ (Y : Yard) (B : List Row) (n : ℕ) (win : ℕ → Span) (W : Windows Y
       ⊎-elim (λ (c : i < j). absurd (omega (arith, W .by-start i j c k p)))
       (λ (c : j ≤ i). ⊎-elim (λ (d : j < i). absurd (omega (arith, W .by-start j i d h (sym p)))) (λ (d : i ≤ j). omega arith) (lt-or-ge j i))
       (lt-or-ge i j)
-
-  -- the entry into node j of who entered node i at e
-  abbrev pub nextAt : ℕ → ℕ → ℕ → ℕ
-  nextAt i j e = next Y B (win i) (win j) e
 
   pub mono : (w v e e′ : ℕ) → w < n → e ≤ e′ → next Y B (win w) (win v) e ≤ next Y B (win w) (win v) e′
   mono w v e e′ k h =

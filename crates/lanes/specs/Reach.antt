@@ -1,21 +1,21 @@
 -- Reached entries, free windows as nodes, and the least entry from one window into another.
-use Prim.Native.Nat.{ℕ, zero, suc, _+_, _-_, _≤_, _<_}
-use mathlib.Core.Path.{_≡_, refl, sym, ap, subst, _∙_}
+use Prim.Native.Nat.{ℕ, zero, suc, _+_, _≤_, _<_}
+use mathlib.Core.Path.{_≡_, refl, sym}
 use mathlib.Core.Logic.{_⊎_, inl, inr, ⊎-elim, Dec·and}
-use mathlib.Core.Bool.{Bool, true, false, Bool-discrete}
-use mathlib.Core.List.{List, [], _∷_}
+use mathlib.Core.Bool.{true, false, Bool-discrete}
+use mathlib.Core.List.{List}
 use native.Mathlib.Omega.{arith}
-use native.Mathlib.Decide.{decLe, decLt, map-dec}
-use lib.ListN.{length, getD}
+use native.Mathlib.Decide.{decLe, map-dec}
+use lib.ListN.{length}
 use Rattle.laws.specs.Order.{Least, NoneIn, least, lt-or-ge}
 use Rattle.rules.specs.declared.Row.{Row}
 use Rattle.rules.specs.Limits.{day}
 use Rattle.rules.specs.Map.{Yard}
-use Rattle.rules.specs.Rows.{covers, bit, load, crosses}
-use Rattle.rules.specs.Plan.{Stay, noStay, stayAt, held, Plan, Permitted, arrival}
+use Rattle.rules.specs.Rows.{crosses}
+use Rattle.rules.specs.Plan.{Stay, stayAt, Permitted}
 use Rattle.rules.specs.Window.{Free, Window, Span, Step}
 use Rattle.lanes.specs.Stays.{stay-safe}
-use Rattle.lanes.specs.Windows.{In, window-of, same-window, ends}
+use Rattle.lanes.specs.Windows.{In, window-of, ends}
 
 module _ (Y : Yard) (B : List Row) where
   -- an earlier entry allows no less

@@ -1,19 +1,17 @@
 -- What covering a second says, and that a permitted plan stays where there is room.
-use Prim.Native.Nat.{ℕ, zero, suc, _+_, _-_, _≤_, _<_}
-use mathlib.Core.Path.{_≡_, refl, ap, subst}
+use Prim.Native.Nat.{ℕ, zero, suc, _≤_, _<_}
+use mathlib.Core.Path.{_≡_, refl}
 use mathlib.Core.Bool.{Bool, true, false, _&&_}
-use mathlib.Core.Logic.{_⊎_, inl, inr, ⊎-elim}
 use mathlib.Core.List.{List, [], _∷_}
 use native.Mathlib.Omega.{arith}
-use lib.ListN.{length, getD}
+use lib.ListN.{length}
 use lib.Dec.{eqb, leb, ltb}
 use borrow.Author.Tests.{eqb-true, leb-true, ltb-true, eq-eqb, le-leb, lt-ltb}
-use Rattle.laws.specs.Tests.{true-or-false, and-in, and-l, and-r}
+use Rattle.laws.specs.Tests.{and-in, and-l, and-r}
 use Rattle.rules.specs.declared.Row.{Row}
-use Rattle.rules.specs.Limits.{day}
 use Rattle.rules.specs.Map.{Yard}
-use Rattle.rules.specs.Rows.{covers, bit, load, crosses}
-use Rattle.rules.specs.Plan.{Stay, noStay, stayAt, held, Plan, Permitted, arrival}
+use Rattle.rules.specs.Rows.{covers, bit, load}
+use Rattle.rules.specs.Plan.{Stay, stayAt, held, Permitted, arrival}
 
 pub bit-true : {b : Bool} → b ≡ true → bit b ≡ 1
 bit-true s = rw s

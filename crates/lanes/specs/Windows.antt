@@ -1,17 +1,17 @@
 -- Free windows: each stay of a permitted plan lies in exactly one.
 use Prim.Native.Nat.{ℕ, zero, suc, _+_, _-_, _≤_, _<_}
-use mathlib.Core.Path.{_≡_, refl, ap, subst}
+use mathlib.Core.Path.{_≡_, subst}
 use mathlib.Core.Logic.{_⊎_, inl, inr, ⊎-elim}
-use mathlib.Core.List.{List, [], _∷_}
+use mathlib.Core.List.{List}
 use native.Mathlib.Omega.{arith}
 use native.Mathlib.Decide.{decLe, decLt}
-use lib.ListN.{length, getD}
+use lib.ListN.{length}
 use Rattle.laws.specs.Order.{Least, NoneIn, least, Stretch, stretch, lt-or-ge}
 use Rattle.rules.specs.declared.Row.{Row}
 use Rattle.rules.specs.Limits.{day}
 use Rattle.rules.specs.Map.{Yard}
-use Rattle.rules.specs.Rows.{covers, bit, load, crosses}
-use Rattle.rules.specs.Plan.{Stay, noStay, stayAt, held, Plan, Permitted, arrival}
+use Rattle.rules.specs.Rows.{load}
+use Rattle.rules.specs.Plan.{Stay, stayAt, Permitted}
 use Rattle.rules.specs.Window.{Free, Window}
 use Rattle.lanes.specs.Stays.{stay-safe}
 
@@ -122,11 +122,3 @@ module _ {Y : Yard} {B : List Row} {start dest s : ℕ} {plan : List Stay} (P : 
   -- each stay lies in a window of its place
   pub stay-in : (i : ℕ) → i < length plan → In Y B ((stayAt plan i) .place) ((stayAt plan i) .entry) ((stayAt plan i) .exit)
   stay-in i h = window-of Y B ((stayAt plan i) .place) ((stayAt plan i) .entry) ((stayAt plan i) .exit) (P .run .lasts i h) (ends i h) (λ t a b. stay-safe P i t h a b)
-
-  -- and in no other
-  pub stay-in-one : (i : ℕ) (h : i < length plan) → 0 < Y .dur ((stayAt plan i) .place) → (v : In Y B ((stayAt plan i) .place) ((stayAt plan i) .entry) ((stayAt plan i) .exit))
-      → ((stay-in i h) .start ≡ v .start) × ((stay-in i h) .end ≡ v .end)
-  stay-in-one i h o v =
-      let w = stay-in i h in
-      let l = P .run .lasts i h in
-      same-window Y B ((stayAt plan i) .place) ((stayAt plan i) .entry) (w .window) (v .window) (w .from) (omega arith) (v .from) (omega arith)

@@ -1,11 +1,11 @@
 -- What a map that keeps the rules gives to planning.
-use Prim.Native.Nat.{ℕ, zero, suc, _+_, _-_, _≤_, _<_}
-use mathlib.Core.Path.{_≡_, refl, sym, ap, ap₂, subst, subst₂, _∙_}
+use Prim.Native.Nat.{ℕ, suc, _≤_, _<_}
+use mathlib.Core.Path.{_≡_, sym, ap, _∙_}
 use mathlib.Core.Logic.{_⊎_, inl, inr, ⊎-elim}
-use mathlib.Core.Bool.{Bool, true, false, _&&_, _||_}
+use mathlib.Core.Bool.{true, false, _&&_}
 use mathlib.Core.List.{List, [], _∷_}
 use native.Mathlib.Omega.{arith}
-use lib.ListN.{length, getD}
+use lib.ListN.{length}
 use lib.ListN.{List·getD-eq-default}
 use lib.Dec.{eqb}
 use borrow.Author.Tests.{eqb-true}
@@ -13,7 +13,7 @@ use Rattle.laws.specs.Order.{lt-or-ge}
 use Rattle.laws.specs.Tests.{true-or-false, and-l, and-r, or-out}
 use Rattle.rules.specs.declared.Place.{Place}
 use Rattle.rules.specs.declared.Link.{Link}
-use Rattle.rules.specs.Map.{Yard, yardOf, MapRules, noPlace, placeAt, noLink, linkAt, linked}
+use Rattle.rules.specs.Map.{Yard, yardOf, MapRules, noPlace, placeAt, linkAt, linked}
 
 pub record YardRules (Y : Yard) : Type 0 where
   pub long : (p : ℕ) → 0 < Y .dur p

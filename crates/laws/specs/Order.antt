@@ -1,10 +1,9 @@
 -- Case analysis on order, strong induction, and the least number of a range that has a property.
-use Prim.Native.Nat.{ℕ, zero, suc, _+_, _-_, _≤_, _<_, zero-le}
-use mathlib.Core.Path.{_≡_, refl, sym, ap, subst, _∙_}
+use Prim.Native.Nat.{ℕ, zero, suc, _+_, _-_, _≤_, _<_}
+use mathlib.Core.Path.{_≡_, subst}
 use mathlib.Core.Logic.{_⊎_, inl, inr, ⊎-elim}
-use mathlib.Core.Bool.{Bool, true, false}
 use native.Mathlib.Omega.{arith}
-use native.Mathlib.Decide.{decLe, decLt, ℕ-discrete}
+use native.Mathlib.Decide.{decLt, ℕ-discrete}
 
 -- order by cases
 pub lt-or-ge : (a b : ℕ) → (a < b) ⊎ (b ≤ a)
@@ -55,14 +54,6 @@ module _ (P : ℕ → Type 0) (dec : (n : ℕ) → Dec (P n)) where
   -- the least number of lo .. hi - 1 for which P holds, or none
   pub least : (lo hi : ℕ) → lo ≤ hi → Least P lo hi ⊎ NoneIn P lo hi
   least lo hi h = least-up (hi - lo) lo hi (omega arith)
-
-  -- a bounded "for all" is decided, and so is a bounded "there is"
-  pub dec-some : (lo hi : ℕ) → lo ≤ hi → Dec (Least P lo hi)
-  dec-some lo hi h = go (least lo hi h)
-    where
-      go : Least P lo hi ⊎ NoneIn P lo hi → Dec (Least P lo hi)
-      go (inl l) = yes l
-      go (inr f) = no (λ l. f (l .at) (l .from) (l .to) (l .holds))
 
 -- the greatest c ≤ hi for which P (c - 1) fails, i.e. the start of the stretch of P that ends at hi
 pub record Stretch (P : ℕ → Type 0) (hi : ℕ) : Type 0 where

@@ -12,7 +12,7 @@ use Rattle.rules.specs.declared.Row.{Row}
 use Rattle.rules.specs.declared.Book.{Book}
 use Rattle.rules.specs.Rows.{rowKey, noRow, rowAt, Rising, insertRow, insertAll}
 use Rattle.rules.specs.Book.{rowsOf, bookOf}
-use Rattle.keeping.specs.Changes.{Fresh, AllNew, insert-length, insert-rising, all-length, all-rising}
+use Rattle.keeping.specs.Changes.{AllNew, all-length, all-rising}
 use Rattle.keeping.specs.Books.{rows-of-book}
 
 -- ---- a book that is the array form of a list
@@ -37,18 +37,6 @@ module _ {b : Book} (l : List Row) (t : ℕ) (e : b ≡ bookOf l t) where
   -- what a change makes of its rows, said of the list
   pub change-held : (f : List Row → List Row) {s : Book} → s ≡ bookOf (f (rowsOf b)) (b .«next_ticket») → s ≡ bookOf (f l) t
   change-held f g = g ∙ ap (λ (m : List Row). bookOf (f m) (b .«next_ticket»)) rows-held ∙ ap (bookOf (f l)) ticket-held
-
--- ---- one row put in
-
-module _ (b : Book) (r : Row) {s : Book} (e : s ≡ bookOf (insertRow r (rowsOf b)) (b .«next_ticket»)) where
-  pub inserted-count : s .count ≡ length (rowsOf b) + 1
-  inserted-count = omega (arith, count-held (insertRow r (rowsOf b)) (b .«next_ticket») e, insert-length r (rowsOf b))
-
-  pub inserted-held : s ≡ bookOf (rowsOf s) (s .«next_ticket»)
-  inserted-held = book-held (insertRow r (rowsOf b)) (b .«next_ticket») e
-
-  pub inserted-rising : Rising (rowsOf b) → Fresh r (rowsOf b) → Rising (rowsOf s)
-  inserted-rising R f = rising-held (insertRow r (rowsOf b)) (b .«next_ticket») e (insert-rising r (rowsOf b) R f)
 
 -- ---- several rows put in, one after the other
 

@@ -1,6 +1,6 @@
 -- What a map's arrays are tested for, and that the tests together are the map's rules: the rules speak of the lists of places and links
 -- that the arrays stand for, and the test of the entry at an index is the rule at that index.
-use Prim.Native.Nat.{ℕ, _+_, _-_, _≤_, _<_}
+use Prim.Native.Nat.{ℕ, _+_, _≤_, _<_}
 use mathlib.Core.Path.{_≡_, refl, sym, ap, _∙_}
 use mathlib.Core.Bool.{Bool, true, false}
 use mathlib.Core.List.{List}

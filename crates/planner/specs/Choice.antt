@@ -1,34 +1,30 @@
 -- From the search to the plan: the trail to the window that the search found is the chosen plan, and where it found none no plan is permitted.
 -- A node's first entry is its window's earliest entry; its best predecessor is the window before; the number order is (place, window start).
-use Prim.Native.Nat.{ℕ, zero, suc, _+_, _-_, _≤_, _<_}
-use mathlib.Core.Path.{_≡_, refl, sym, ap, subst, subst₂, _∙_}
-use mathlib.Core.Logic.{_⊎_, inl, inr, ⊎-elim}
-use mathlib.Core.Bool.{Bool, true, false}
+use Prim.Native.Nat.{ℕ, zero, suc, _+_, _≤_, _<_}
+use mathlib.Core.Path.{_≡_, sym, ap, subst, subst₂, _∙_}
+use mathlib.Core.Logic.{⊎-elim}
 use mathlib.Core.List.{List, [], _∷_}
 use native.Mathlib.Omega.{arith}
-use lib.ListN.{length, getD}
-use lib.Dec.{eqb}
+use lib.ListN.{length}
 use borrow.Author.Tests.{eqb-true, eq-eqb}
 use Rattle.laws.specs.Order.{lt-or-ge, eq-or-ne}
-use Rattle.laws.specs.Tests.{not-both}
 use Rattle.laws.specs.Lists.{at}
 use Rattle.rules.specs.declared.Row.{Row}
-use Rattle.rules.specs.Limits.{day}
 use Rattle.rules.specs.Map.{Yard}
 use Rattle.rules.specs.Rows.{load}
-use Rattle.rules.specs.Plan.{Stay, stayAt, Permitted}
-use Rattle.rules.specs.Window.{Span, Window, Step, Enters, Earliest, Entries, Yields}
+use Rattle.rules.specs.Plan.{Stay, Permitted}
+use Rattle.rules.specs.Window.{Span, Window, Step, Earliest, Entries, Yields}
 use Rattle.rules.specs.Chosen.{LexLe, Goal, Prior, Back, first, prior, Chosen}
 use Rattle.lanes.specs.Yards.{YardRules, yard-rules}
-use Rattle.lanes.specs.Windows.{In, stay-in}
-use Rattle.lanes.specs.Reach.{begin, Enter, Soonest, next, next-low, next-step, next-top}
+use Rattle.lanes.specs.Windows.{stay-in}
+use Rattle.lanes.specs.Reach.{begin, Enter, next, next-low, next-step}
 use Rattle.lanes.specs.Nodes.{Windows, enter-node, first-soonest, soonest-first}
-use Rattle.lanes.specs.Best.{plan-last, enters-enter, enter-enters, earliest-soonest, soonest-earliest}
+use Rattle.lanes.specs.Best.{plan-last, enters-enter, earliest-soonest, soonest-earliest}
 use Rattle.lanes.specs.Entries.{known-entries, none-enters}
-use Rattle.label.specs.Label.{At, First, Best, Ahead, Backs, OnWay, self, back, Sought, at-lt, at-ge}
-use Rattle.flat.specs.Flat.{yardIn, Of, spanAt, Grouped}
+use Rattle.label.specs.Label.{First, Best, Ahead, Backs, OnWay, self, back, Sought, at-lt, at-ge}
+use Rattle.flat.specs.Flat.{yardIn, Of, spanAt}
 use Rattle.flat.specs.Laws.{yard-of}
-use Rattle.flat.specs.Links.{group-in, group-place}
+use Rattle.flat.specs.Links.{group-in}
 use Rattle.settle.specs.Search.{befOf, Answer}
 use Rattle.search.specs.Offers.{BeginsAt}
 use Rattle.search.specs.Relax.{nextBy}

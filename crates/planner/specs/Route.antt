@@ -1,17 +1,17 @@
 -- The answer of a search as a path of windows, and the rows of a path.
-use Prim.Native.Nat.{ℕ, zero, suc, _+_, _-_, _≤_, _<_}
+use Prim.Native.Nat.{ℕ, zero, suc, _+_, _≤_, _<_}
 use mathlib.Core.Path.{_≡_, refl, sym, ap, subst, subst₂, _∙_}
-use mathlib.Core.Logic.{_⊎_, inl, inr, ⊎-elim}
+use mathlib.Core.Logic.{_⊎_, ⊎-elim}
 use mathlib.Core.List.{List, [], _∷_, _++_}
 use native.Mathlib.Omega.{arith}
-use lib.ListN.{length, getD, take}
+use lib.ListN.{length, take}
 use lib.Seq.{getD-take, length-take-le, take-suc, take-all}
 use native.Mathlib.Numerals.{add-one}
 use Rattle.laws.specs.Order.{lt-or-ge}
 use Rattle.laws.specs.Lists.{at}
 use Rattle.rules.specs.declared.Row.{Row}
 use Rattle.rules.specs.Map.{Yard}
-use Rattle.rules.specs.Plan.{Stay, Permitted, runRows, stayRow, arrival}
+use Rattle.rules.specs.Plan.{Stay, Permitted, runRows, arrival}
 use Rattle.rules.specs.Window.{Enters, Earliest, Entries}
 use Rattle.rules.specs.Chosen.{Chosen}
 use Rattle.rules.specs.Answer.{written}
@@ -24,7 +24,7 @@ use Rattle.search.specs.Offers.{BeginsAt, Row1}
 use Rattle.search.specs.Relax.{nextBy}
 use Rattle.search.specs.Lanes.{Lanes, atDest}
 use Rattle.search.specs.Trail.{Trailed, trailed-fits, trailed-last}
-use Rattle.planner.specs.Choice.{planOf, stayOf, OnDay, found-chosen, found-good, entries-found}
+use Rattle.planner.specs.Choice.{planOf, OnDay, found-chosen, found-good, entries-found}
 
 -- r windows of path are the chosen plan; 0 where no plan is permitted. The labels of all windows are their earliest entries, up to the entry into
 -- the plan's last window; where no plan is permitted, of the whole day.

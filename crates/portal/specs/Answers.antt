@@ -1,17 +1,16 @@
 -- An answer's count is small: a plan that is given fits the caller's list, and a page has at most 64 rows; a refusal counts nothing.
-use Prim.Native.Nat.{ℕ, _/_, _≤_}
-use mathlib.Core.Path.{_≡_}
+use Prim.Native.Nat.{ℕ, _≤_}
 use mathlib.Core.Logic.{⊎-elim}
 use mathlib.Core.List.{List}
 use native.Mathlib.Omega.{arith}
-use lib.ListN.{length, take, length-take}
+use lib.ListN.{length-take}
 use Rattle.rules.specs.declared.Row.{Row}
 use Rattle.rules.specs.declared.Planned.{Planned}
 use Rattle.rules.specs.declared.Paged.{Paged}
 use Rattle.rules.specs.Map.{Yard}
 use Rattle.rules.specs.Rows.{Key}
 use Rattle.rules.specs.Page.{after}
-use Rattle.rules.specs.Answer.{Unless, records, plannedCount, pagedCount, PlanRefused, PlanSays, PlanSound, PageRefused, PageSays, PageSound}
+use Rattle.rules.specs.Answer.{Unless, records, plannedCount, pagedCount, PlanRefused, PlanSays, PageRefused, PageSays}
 
 -- what a refusal and the rest both give
 either : {ok bad rest G : Type 0} → (bad → G) → (ok → rest → G) → Unless ok bad rest → G

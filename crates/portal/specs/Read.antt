@@ -1,12 +1,11 @@
 -- Slices read into arrays: no places where the map slice has not its counts' length, and 1,025 rows where the book slice has not. No map has
 -- none, no book as many; so the arrays keep the rules exactly where the slices do, and what is said of the arrays is said of the slices.
-use Prim.Native.Nat.{ℕ, _+_, _*_, _≤_}
+use Prim.Native.Nat.{ℕ, _+_, _*_}
 use mathlib.Core.Path.{_≡_, refl, sym, ap₂, subst}
 use mathlib.Core.Logic.{⊎-elim}
 use mathlib.Core.Bool.{Bool, true, false}
 use mathlib.Core.List.{List}
 use native.Mathlib.Omega.{arith}
-use lib.ListN.{length}
 use Rattle.laws.specs.Tests.{true-or-false}
 use Rattle.laws.specs.Lists.{at}
 use Rattle.rules.specs.declared.Planned.{Planned}

@@ -1,11 +1,11 @@
 -- What each way through the test of two keys says.
 use mathlib.Core.Path.{_≡_}
-use mathlib.Core.Bool.{Bool, true, false}
-use Prim.Native.Nat.{ℕ, _<_, _≤_}
+use mathlib.Core.Bool.{true, false}
+use Prim.Native.Nat.{_<_, _≤_}
 use native.Mathlib.Omega.{arith}
 use lib.Dec.{ltb}
 use borrow.Author.Tests.{lt-ltb, le-ltb}
-use Rattle.rules.specs.Rows.{Key, lex, lessb}
+use Rattle.rules.specs.Rows.{Key, lessb}
 
 module _ (a b : Key) where
   pub at-place : a .place < b .place → lessb a b ≡ true

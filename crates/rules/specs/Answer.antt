@@ -20,7 +20,6 @@ use Rattle.rules.specs.declared.Paged.{Paged}
 use Rattle.rules.specs.declared.Paged.the-variants.{Done as Shows, Refused as NotShown}
 use Rattle.rules.specs.declared.Booking.{Booking}
 use Rattle.rules.specs.declared.Cancelling.{Cancelling}
-use Rattle.rules.specs.declared.Cursor.{Cursor}
 use Rattle.rules.specs.Limits.{day, rowLimit, ticketLimit, pageLimit}
 use Rattle.rules.specs.Rows.{Key, cursorKey, firstKey, keep, insertAll}
 use Rattle.rules.specs.Page.{pageRows, pageMore, lastKey}

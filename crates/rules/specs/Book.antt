@@ -1,7 +1,7 @@
 -- The book, and when it is well formed.
 use Prim.Native.Nat.{ℕ, _-_, _≤_, _<_}
 use mathlib.Core.Path.{_≡_}
-use mathlib.Core.Bool.{Bool, true, false, not}
+use mathlib.Core.Bool.{Bool, false, not}
 use mathlib.Core.List.{List, _++_, List·Memᴰ}
 use lib.ListN.{length, take, replicate}
 use lib.Dec.{eqb}

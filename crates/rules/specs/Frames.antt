@@ -1,12 +1,10 @@
 -- The program's frames: what a line means, what it prints, and how input is cut into lines.
-use Prim.Native.Nat.{ℕ, zero, suc, _+_, _*_, _/_, _%_, _≤_, _<_}
+use Prim.Native.Nat.{ℕ, zero, suc, _+_, _/_, _%_, _≤_, _<_}
 use mathlib.Core.Path.{_≡_}
 use mathlib.Core.Bool.{Bool, true, false}
 use mathlib.Core.List.{List, [], _∷_, _++_}
-use lib.ListN.{length, take, drop, set, replicate, getD}
+use lib.ListN.{length, take, drop, set, replicate}
 use lib.Dec.{eqb, ltb}
-use Rattle.rules.specs.declared.Place.{Place}
-use Rattle.rules.specs.declared.Link.{Link}
 use Rattle.rules.specs.declared.Map.{Map}
 use Rattle.rules.specs.declared.Book.{Book}
 use Rattle.rules.specs.declared.State.{State}
@@ -15,8 +13,8 @@ use Rattle.rules.specs.declared.Paged.{Paged}
 use Rattle.rules.specs.declared.Booking.{Booking}
 use Rattle.rules.specs.declared.Cancelling.{Cancelling}
 use Rattle.rules.specs.Limits.{placeLimit, linkLimit}
-use Rattle.rules.specs.Map.{noPlace, noLink}
-use Rattle.rules.specs.Rows.{Key, bit}
+use Rattle.rules.specs.Map.{noLink}
+use Rattle.rules.specs.Rows.{bit}
 use Rattle.rules.specs.Book.{bookOf}
 use Rattle.rules.specs.Answer.{Unless, PlanIs, BookIs, CancelIs, PageIs, plannedNumber, plannedArrival, plannedCount, bookedNumber, bookedTicket, bookedArrival, bookedCount, cancelledNumber, cancelledCount, pagedNumber, pagedCount, pagedMore}
 use Rattle.rules.specs.Portal.{byteAt, num2, num3}

@@ -1,20 +1,18 @@
 -- What a search stands on: a map that keeps the rules, its links by place, and all free windows of the book by place.
-use Prim.Native.Nat.{ℕ, zero, suc, _+_, _-_, _≤_, _<_}
+use Prim.Native.Nat.{ℕ, _+_, _-_, _≤_, _<_}
 use mathlib.Core.Path.{_≡_, refl, sym, ap, subst, _∙_}
-use mathlib.Core.Logic.{_⊎_, inl, inr, ⊎-elim}
-use mathlib.Core.Bool.{Bool, true, false}
+use mathlib.Core.Logic.{⊎-elim}
+use mathlib.Core.Bool.{Bool}
 use mathlib.Core.List.{List}
 use native.Mathlib.Omega.{arith}
-use lib.ListN.{length}
 use lib.Dec.{eqb}
 use Rattle.laws.specs.Order.{lt-or-ge}
 use Rattle.laws.specs.Lists.{at}
 use Rattle.rules.specs.declared.Row.{Row}
 use Rattle.rules.specs.declared.Place.{Place}
 use Rattle.rules.specs.declared.Link.{Link}
-use Rattle.rules.specs.Map.{Yard, MapRules, placeAt, linkAt}
-use Rattle.rules.specs.Window.{Window, Span}
-use Rattle.lanes.specs.Yards.{YardRules, yard-rules}
+use Rattle.rules.specs.Map.{Yard, MapRules}
+use Rattle.rules.specs.Window.{Window}
 use Rattle.lanes.specs.Nodes.{Windows, mono, later}
 use Rattle.flat.specs.Flat.{placesIn, linksIn, yardIn, Of, Chained, spanAt, Grouped}
 use Rattle.flat.specs.Laws.{places-long, place-in, links-long, link-in, yard-of}
@@ -40,9 +38,6 @@ module _ {C D F T H N : List ℕ} {n k : ℕ} {rows : List Row} {c : ℕ} {P S E
 
   yard : Of Y C D n
   yard = yard-of C D F T n k (L .rules)
-
-  pub lanes-long : (p : ℕ) → 0 < Y .dur p
-  lanes-long = yard .long
 
   is-at : (v : ℕ) → v < m → Window Y rows (at P v) (at S v) (at E v)
   is-at v h = L .windows .are v h

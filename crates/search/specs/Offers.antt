@@ -1,19 +1,16 @@
 -- The windows of one place, and of all places that a place's links lead to, offered the way through a window.
-use Prim.Native.Nat.{ℕ, zero, suc, _+_, _-_, _*_, _≤_, _<_, min, max}
-use mathlib.Core.Path.{_≡_, refl, sym, ap, subst, _∙_}
+use Prim.Native.Nat.{ℕ, _+_, _-_, _≤_, _<_, min, max}
+use mathlib.Core.Path.{_≡_, refl, ap, subst, _∙_}
 use mathlib.Core.Logic.{_⊎_, inl, inr, ⊎-elim}
-use mathlib.Core.Bool.{Bool, true, false, _&&_, _||_}
 use mathlib.Core.List.{List}
 use native.Mathlib.Omega.{arith}
-use lib.ListN.{length, getD, set, length-set}
+use lib.ListN.{length, set, length-set}
 use lib.Seq.{getD-set-same, getD-set-other}
-use lib.Dec.{eqb, leb}
 use Rattle.laws.specs.Order.{lt-or-ge, eq-or-ne}
-use Rattle.laws.specs.Tests.{true-or-false, not-both}
 use Rattle.laws.specs.Lists.{at}
 use Rattle.rules.specs.declared.Row.{Row}
 use Rattle.settle.specs.Blocks.{Blocks, Offered}
-use Rattle.settle.specs.Search.{Through, In, in-or-out, through-none, through-skip, run-more, run-rest}
+use Rattle.settle.specs.Search.{Through, In, through-none, run-more, run-rest}
 use Rattle.search.specs.Entries.{FirstClear, IsEntry, entry-first, entry-past, entry-late, first-clear-same}
 
 -- windows a .. b - 1 of one place, of duration d: long enough, in the day, and each after the one before
@@ -94,10 +91,6 @@ module _ {rows : List Row} {q p soonest leave d : ℕ} {S E : List ℕ} {a b : �
       after : (x : ℕ) → v ≤ x → x < b → leave < at S x
       after x k m =
           ⊎-elim (λ (c : v < x). omega (arith, R .rise v x av c m, R .long v av vb)) (λ (c : x ≤ v). let e : v ≡ x = omega arith in subst (λ y. leave < at S y) e h) (lt-or-ge v x)
-
--- labels below the mark stay below it
-pub through-low : {M : ℕ → Type 0} {f : ℕ → ℕ} {u : ℕ} {lab op bef lab′ op′ bef′ : List ℕ} → Through M f u lab op bef lab′ op′ bef′ → ((v : ℕ) → M v ⊎ (M v → ⊥)) → (m : ℕ) → ((v : ℕ) → at lab v ≤ m) → (v : ℕ) → at lab′ v ≤ m
-through-low R dec m low v = ⊎-elim (λ h. omega (arith, R .better v h, low v)) (λ h. let z = R .rest v h in omega (arith, z .0, low v)) (dec v)
 
 -- two runs of offers of one way, one after the other
 module _ {M M′ : ℕ → Type 0} {f : ℕ → ℕ} {u : ℕ} {lab op bef lab′ op′ bef′ lab″ op″ bef″ : List ℕ}

@@ -1,26 +1,23 @@
 -- The way through a window offered along all links of its place: each window that a link leads to is offered its entry, the others have none.
-use Prim.Native.Nat.{ℕ, zero, suc, _+_, _-_, _≤_, _<_, min, max}
+use Prim.Native.Nat.{ℕ, suc, _+_, _≤_, _<_}
 use mathlib.Core.Path.{_≡_, refl, sym, ap, subst, _∙_}
 use mathlib.Core.Logic.{_⊎_, inl, inr, ⊎-elim}
-use mathlib.Core.Bool.{Bool, true, false}
+use mathlib.Core.Bool.{true, false}
 use mathlib.Core.List.{List}
 use native.Mathlib.Omega.{arith}
-use lib.ListN.{length}
-use Rattle.laws.specs.Order.{lt-or-ge, eq-or-ne}
+use Rattle.laws.specs.Order.{lt-or-ge}
 use Rattle.laws.specs.Tests.{true-or-false, not-both}
 use Rattle.laws.specs.Lists.{at}
 use Rattle.rules.specs.declared.Row.{Row}
-use Rattle.rules.specs.Limits.{day}
 use Rattle.rules.specs.Map.{Yard, linked}
 use Rattle.rules.specs.Rows.{crosses}
-use Rattle.rules.specs.Window.{Span, Step}
 use Rattle.lanes.specs.Reach.{next, next-low, next-step, next-top}
 use Rattle.flat.specs.Flat.{linksIn, lastBefore, Chained, spanAt, Grouped}
 use Rattle.flat.specs.Laws.{LastIs, last-is}
 use Rattle.flat.specs.Links.{array-linked, linked-array, leads, leads-at, at-leads, group-in, group-end, group-place}
 use Rattle.settle.specs.Blocks.{Blocks}
 use Rattle.settle.specs.Search.{Through, In, in-or-out, through-none, through-skip}
-use Rattle.search.specs.Entries.{Allowed, IsEntry}
+use Rattle.search.specs.Entries.{IsEntry}
 use Rattle.search.specs.Offers.{Row1, Entries, Labels, OfferedTo, through-join}
 
 -- what stays the same during a search: n places, k links chained by place, c rows, m windows by place

@@ -1,20 +1,18 @@
 -- The search over arrays, for any next function nx and any goal: what a turn does, the invariant, the way back.
-use Prim.Native.Nat.{ℕ, zero, suc, _+_, _-_, _*_, _/_, _≤_, _<_, min, max}
+use Prim.Native.Nat.{ℕ, zero, suc, _+_, _-_, _*_, _/_, _≤_, _<_, min}
 use mathlib.Core.Path.{_≡_, refl, sym, ap, subst, _∙_}
 use mathlib.Core.Logic.{_⊎_, inl, inr, ⊎-elim}
 use mathlib.Core.Bool.{Bool, true, false}
-use mathlib.Core.List.{List, [], _∷_}
+use mathlib.Core.List.{List}
 use native.Mathlib.Omega.{arith}
-use native.Mathlib.Numerals.{add-one}
 use lib.ListN.{length, getD, set, length-set, replicate, length-replicate, getD-replicate, List·getD-eq-default}
 use lib.Seq.{getD-set-same, getD-set-other}
 use lib.Dec.{ltb}
 use borrow.Author.Tests.{ltb-true, ltb-false, lt-ltb, le-ltb}
-use borrow.Author.Count.{below-more}
 use Rattle.laws.specs.Order.{lt-or-ge, eq-or-ne, strong}
 use Rattle.laws.specs.Tests.{true-or-false, not-both}
-use Rattle.label.specs.Label.{Ahead, Pick, At, Inv, Backs, OnWay, Sought, Known, Trace, begin, turn, stop, backs-stop, known-stop, known-end, not-sought, way, trace, at-ge, at-lt}
-use Rattle.settle.specs.Blocks.{low, Blocks, Picked, FirstLeast, Offered, low-ge, low-top, blocks-lower}
+use Rattle.label.specs.Label.{Pick, At, Inv, Backs, OnWay, Sought, Known, begin, turn, stop, backs-stop, known-stop, known-end, not-sought, way, at-ge, at-lt}
+use Rattle.settle.specs.Blocks.{low, Blocks, Picked, Offered, low-ge, low-top, blocks-lower}
 
 abbrev pub top : ℕ
 top = 86401

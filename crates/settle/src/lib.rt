@@ -1,8 +1,7 @@
 // Label setting over lent arrays: the choice of the next node through block minima.
 ghost use mathlib.Core.Path.{_≡_};
-ghost use mathlib.Core.Bool.{Bool, true, false};
-ghost use Prim.Native.Nat.{ℕ, _+_, _*_, _≤_, _<_, min, max};
-ghost use lib.ListN.{length, getD, set};
+ghost use Prim.Native.Nat.{_+_, _*_, _≤_, _<_, min};
+ghost use lib.ListN.{getD, set};
 ghost use Rattle.settle.specs.Blocks.{low, Blocks, FirstLeast, Found, Picked, Offered};
 
 fn sooner(a: u32, b: u32) -> u32

@@ -2,8 +2,8 @@
 -- That the calls meet these contracts, take every input and end is proved where they stand: crates/planning, booking, paging, records, portal, frames.
 -- Free windows are exactly those of the rules by `AllWindows` (windows/specs/Places.antt); that each window's label is its earliest entry, or the mark,
 -- is `every-entry` and `sooner-entry` (planner/specs/Route.antt).
-use Prim.Native.Nat.{ℕ, zero, suc, _+_, _≤_, _<_}
-use mathlib.Core.Path.{_≡_, refl, sym, ap, subst, _∙_}
+use Prim.Native.Nat.{ℕ, suc, _+_, _≤_, _<_}
+use mathlib.Core.Path.{_≡_, sym, ap, subst, _∙_}
 use mathlib.Core.Logic.{_⊎_, inl, inr, ⊎-elim}
 use mathlib.Core.Bool.{Bool}
 use mathlib.Core.List.{List, [], _∷_, List·Memᴰ}
@@ -24,7 +24,7 @@ use Rattle.rules.specs.Plan.{Stay, Permitted, arrival, runRows}
 use Rattle.rules.specs.Book.{GoodBook, Whole, rowsOf, bookOf, ofTicket, otherTicket}
 use Rattle.rules.specs.Page.{pageRows, pageMore, lastKey}
 use Rattle.rules.specs.Chosen.{Chosen}
-use Rattle.rules.specs.Answer.{Unless, records, written, over, PlanIs, PlanRecords, Planning, plannedNumber, plannedArrival, plannedCount, BookIs, BookingIs, bookedNumber, bookedTicket, bookedArrival, bookedCount, CancelIs, CancellingIs, Known, cancelledNumber, cancelledCount, PageIs, PageRecords, PagingIs, pagedNumber, pagedCount, pagedMore, pagedCursor}
+use Rattle.rules.specs.Answer.{records, written, over, PlanIs, PlanRecords, Planning, plannedNumber, plannedArrival, plannedCount, BookIs, BookingIs, bookedNumber, bookedTicket, bookedArrival, bookedCount, CancelIs, CancellingIs, Known, cancelledNumber, PageIs, PageRecords, PagingIs, pagedNumber}
 use Rattle.lanes.specs.Yards.{yard-rules}
 use Rattle.lanes.specs.Chosen.{chosen-best}
 use Rattle.keeping.specs.Calls.{unless, empty-good, booking-good, cancelling-good}

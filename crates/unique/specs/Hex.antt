@@ -1,6 +1,6 @@
 -- Hexadecimal digits: a digit tells its value, and a line of digits tells the bytes that it was written from.
 use Prim.Native.Nat.{ℕ, zero, suc, _+_, _-_, _*_, _/_, _%_, _≤_, _<_}
-use mathlib.Core.Path.{_≡_, refl, sym, ap, _∙_}
+use mathlib.Core.Path.{_≡_, refl, ap}
 use mathlib.Core.Logic.{_⊎_, inl, inr, ⊎-elim}
 use mathlib.Core.List.{List, [], _∷_, _++_}
 use native.Mathlib.Omega.{arith}
@@ -8,7 +8,7 @@ use lib.ListN.{length, getD}
 use borrow.Author.Tests.{lt-ltb, le-ltb}
 use Rattle.laws.specs.Order.{lt-or-ge}
 use Rattle.rules.specs.Portal.{byteAt}
-use Rattle.rules.specs.Frames.{digit, digitBy, hexOf}
+use Rattle.rules.specs.Frames.{digit, hexOf}
 
 pub digit-low : (x : ℕ) → x < 10 → digit x ≡ 48 + x
 unfolding digit

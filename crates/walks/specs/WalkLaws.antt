@@ -28,7 +28,7 @@ use Rattle.rules.specs.Book.{GoodBook, rowsOf, otherTicket}
 use Rattle.rules.specs.Answer.{Unless, BookIs, BookingIs, BookDone, bookedCount, CancelIs, CancellingIs, CancelDone, PagingIs, PageDone, pagedMore, pagedCursor}
 use Rattle.keeping.specs.OrderLaws.{less-trans, less-lessb, lessb-less, same-lessb}
 use Rattle.keeping.specs.Chains.{Chain, chain-below, chain-take, chain-append, chain-rest, chain-rising, after-chain, keys-once}
-use Rattle.keeping.specs.Chains.Chain.{none, more}
+use Rattle.keeping.specs.Chains.Chain.{none}
 use Rattle.keeping.specs.Changes.{keep-mem, mem-keep, keep-le}
 use Rattle.keeping.specs.Runs.{run-length}
 use Rattle.keeping.specs.Keeping.{row-ranges}

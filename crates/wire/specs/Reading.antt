@@ -12,8 +12,7 @@ use Rattle.laws.specs.Lists.{at, tabulate}
 use Rattle.rules.specs.declared.Place.{Place}
 use Rattle.rules.specs.declared.Link.{Link}
 use Rattle.rules.specs.Portal.{byteAt, num2, num3, placesFrom, linksFrom, rowIn, rowsFrom}
-use Rattle.flat.specs.Flat.{placesIn, linksIn, rowsIn, rowOf, placeOf, entryOf, ticketOf, keyOf, Packed}
-use Rattle.flat.specs.Laws.{place-of-key, entry-of-key, ticket-of-key}
+use Rattle.flat.specs.Flat.{placesIn, linksIn, rowsIn, rowOf, placeOf, entryOf, ticketOf, Packed}
 use Rattle.wire.specs.Tables.{tabulate-same}
 
 -- ---- the lists that the bytes stand for, by index
@@ -131,15 +130,6 @@ pub record KeyRead (s : List ℕ) (at key : ℕ) : Type 0 where
   pub entry : entryOf key ≡ num3 s (at + 1)
   pub ticket : ticketOf key ≡ num3 s (at + 4)
   pub small : key < 72057594037927936
-
-pub key-read : {s : List ℕ} {a : ℕ} (p e t : ℕ) → p ≡ byteAt s a → p < 256 → e ≡ num3 s (a + 1) → e < 16777216 → t ≡ num3 s (a + 4) → t < 16777216
-    → KeyRead s a (keyOf p e t)
-key-read p e t a ha b hb c hc = record {
-  place = place-of-key p e t hb hc ∙ a;
-  entry = entry-of-key p e t hb hc ∙ b;
-  ticket = ticket-of-key p e t hb hc ∙ c;
-  small = omega arith;
-}
 
 pub record RowsRead (s : List ℕ) (j : ℕ) (K X N : List ℕ) : Type 0 where
   pub rows : (i : ℕ) → i < j → rowOf (at K i) (at X i) (at N i) ≡ rowIn s (5 + 11 * i)

@@ -9,10 +9,9 @@ use lib.ListN.{length}
 use lib.Dec.{eqb}
 use borrow.Author.Tests.{eqb-true, eq-eqb}
 use Rattle.laws.specs.Lists.{length-tabulate}
-use Rattle.rules.specs.Map.{Yard, yardOf, MapRules}
-use Rattle.rules.specs.Book.{WellFormed}
-use Rattle.rules.specs.Portal.{num2, placesFrom, linksFrom, rowsFrom, rowIn, slicePlaces, sliceLinks, sliceYard, MapSlice, sliceRows, sliceTicket, BookSlice}
-use Rattle.flat.specs.Flat.{placesIn, linksIn, yardIn, rowsIn}
+use Rattle.rules.specs.Map.{Yard}
+use Rattle.rules.specs.Portal.{num2, placesFrom, linksFrom, rowsFrom, rowIn, slicePlaces, sliceLinks, MapSlice, sliceRows, BookSlice}
+use Rattle.flat.specs.Flat.{placesIn, linksIn, rowsIn}
 use Rattle.wire.specs.Reading.{PlacesOf, LinksOf, RowsOf, placeBytes, linkBytes, places-table, links-table, rows-table}
 
 -- a shape that the slice has not, answered false
@@ -61,15 +60,6 @@ module _ {s C D F T : List ℕ} {n base k : ℕ}
   pub slice-links : linksIn F T k ≡ sliceLinks s
   slice-links = L .are ∙ ap₂ (linksFrom s) (is-base ∙ ap (λ (x : ℕ). 4 + 3 * x) is-n) is-k
 
-  pub slice-yard : yardIn C D n F T k ≡ sliceYard s
-  slice-yard = ap₂ yardOf slice-places slice-links
-
-  pub map-slice : MapShape s → MapRules (placesIn C D n) (linksIn F T k) → MapSlice s
-  map-slice S R = record { counts = S .counts; fits = S .fits; rules = rw (slice-places, slice-links) at R }
-
-  pub map-rules : MapSlice s → MapRules (placesIn C D n) (linksIn F T k)
-  map-rules M = rw (slice-places, slice-links) (M .rules)
-
 -- ---- the book's slice
 
 pub record BookShape (s : List ℕ) : Type 0 where
@@ -92,10 +82,3 @@ book-shape {Y} {s} B = record { counts = B .counts; fits = B .fits; few = omega 
 module _ {s K X N : List ℕ} {count : ℕ} (R : RowsOf s count K X N) (is-count : count ≡ num2 s 3) where
   pub slice-rows : rowsIn K X N count ≡ sliceRows s
   slice-rows = R .are ∙ ap (rowsFrom s 5) is-count
-
-  module _ {Y : Yard} {ticket : ℕ} (is-ticket : ticket ≡ sliceTicket s) where
-    pub book-slice : BookShape s → WellFormed Y (rowsIn K X N count) ticket → BookSlice Y s
-    book-slice S W = record { counts = S .counts; fits = S .fits; formed = rw (slice-rows, is-ticket) at W }
-
-    pub book-formed : BookSlice Y s → WellFormed Y (rowsIn K X N count) ticket
-    book-formed B = rw (slice-rows, is-ticket) (B .formed)

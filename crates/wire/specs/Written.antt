@@ -48,10 +48,6 @@ written-next l first {r} {j} {was} {out} P n e =
     ∙ rw (front, end) (sym (append-assoc f (rowBytes r) (drop (11 * length (l ++ (r ∷ []))) first)))
     ∙ ap (λ (t : List ℕ). t ++ drop (11 * length (l ++ (r ∷ []))) first) (sym (bytes-append l (r ∷ [])))
 
-pub written-long : (l : List Row) (was : List ℕ) → 11 * length l ≤ length was → length (written l was) ≡ length was
-written-long l was h =
-    length-append (rowsBytes l) (drop (11 * length l) was) ∙ (let a = bytes-long l in let b = length-drop (11 * length l) was in omega arith)
-
 -- ---- the stores of one row
 
 -- a row's eleven bytes, with its place and next as they are: each is a byte already

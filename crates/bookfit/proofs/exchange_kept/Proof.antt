@@ -1,7 +1,7 @@
 -- No row goes against another exactly where the answer is true. Each row met so far that goes on has marked its crossing's slot, so that an
 -- earlier one against it can only be where the slot is marked; there the next place's rows are looked through.
 use Prim.Native.Nat.{_-_, _≤_}
-use mathlib.Core.Path.{_≡_, refl, sym, _∙_}
+use mathlib.Core.Path.{_≡_, refl}
 use mathlib.Core.Logic.{⊎-elim}
 use mathlib.Core.Bool.{false}
 use native.Mathlib.Omega.{arith}

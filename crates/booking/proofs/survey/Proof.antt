@@ -1,5 +1,4 @@
 -- `booking::survey` meets its contract: places, links and rows stand in the arrays, and what vetting says of them holds of the map and the book.
-use Prim.Native.Nat.{_-_}
 use mathlib.Core.Path.{_≡_}
 use lib.ListN.{length}
 use borrow.Author.Needs.{needs}

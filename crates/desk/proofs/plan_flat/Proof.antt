@@ -1,5 +1,4 @@
 -- `desk::plan_flat` meets its contract: vetting decides 1 and 2, and what is sound is planned on.
-use Prim.Native.Nat.{_-_}
 use mathlib.Core.Path.{refl}
 use mathlib.Core.Logic.{inr}
 use native.Mathlib.Omega.{arith}

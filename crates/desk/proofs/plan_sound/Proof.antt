@@ -1,5 +1,5 @@
 -- `desk::plan_sound` meets its contract: each refusal stands where its condition is tested, in the order of the table, and the plan is the route's.
-use Prim.Native.Nat.{_-_, _<_}
+use Prim.Native.Nat.{_<_}
 use mathlib.Core.Path.{refl, sym, ap, _∙_}
 use native.Mathlib.Omega.{arith}
 use borrow.Author.Needs.{needs}

@@ -1,5 +1,5 @@
 -- `lanebook::answered` meets its contract: each turn takes the bytes on from where the last one stopped.
-use Prim.Native.Nat.{ℕ, _-_}
+use Prim.Native.Nat.{_-_}
 use mathlib.Core.Path.{_≡_, refl, _∙_}
 use native.Mathlib.Omega.{arith}
 use lib.ListN.{length}
@@ -7,10 +7,6 @@ use borrow.Author.Needs.{needs}
 use Rattle.lanebook.specs.Turns.{Taking, taking-start, taking-next, took-all, took-none}
 use Rattle.lanebook.proofs.answered.Statement.{statement}
 use Rattle.lanebook.proofs.answered.Tie as tie
-use Rattle.lanebook.proofs.answered.Reads as reads
-use Rattle.lanebook.proofs.answered.Lts as lts
-use Rattle.frames.proofs.fed.Reads as fed-reads
-use Rattle.lanebook.proofs.write.Reads as write-reads
 
 abbrev Inv-loop : tie.InvT-loop
 Inv-loop buf out₀ desk₀ i₀ out desk i = Taking desk₀ buf desk i × (length out ≡ length out₀)

@@ -3,10 +3,6 @@ use Rattle.lanebook.specs.Turns.{ended-fits}
 use borrow.Author.Needs.{needs}
 use Rattle.lanebook.proofs.last.Statement.{statement}
 use Rattle.lanebook.proofs.last.Tie as tie
-use Rattle.lanebook.proofs.last.Reads as reads
-use Rattle.lanebook.proofs.last.Lts as lts
-use Rattle.frames.proofs.ended.Reads as ended-reads
-use Rattle.lanebook.proofs.write.Reads as write-reads
 
 ended-requires : tie.Need-ended-requires
 ended-requires c κs = search needs

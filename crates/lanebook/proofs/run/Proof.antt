@@ -1,15 +1,10 @@
 -- `lanebook::run` is safe and ends: the measure is the number of turns that are left.
-use mathlib.Core.Path.{_≡_, refl, sym, _∙_}
+use mathlib.Core.Path.{_≡_, refl}
 use native.Mathlib.Omega.{arith}
 use lib.ListN.{length}
 use borrow.Author.Needs.{needs}
-use borrow.Author.Needs.{needs}
 use Rattle.lanebook.proofs.run.Statement.{statement}
 use Rattle.lanebook.proofs.run.Tie as tie
-use Rattle.lanebook.proofs.run.Reads as reads
-use Rattle.lanebook.proofs.run.Lts as lts
-use Rattle.frames.proofs.Desk.first.Reads as first-reads
-use Rattle.lanebook.proofs.sit.Reads as sit-reads
 
 abbrev Inv-loop : tie.InvT-loop
 Inv-loop buf₀ out₀ t₀ turns₀ buf out t turns = (length buf ≡ length buf₀) × (length out ≡ length out₀)

@@ -4,10 +4,6 @@ use lib.Seq.{length-take-le}
 use borrow.Author.Needs.{needs}
 use Rattle.lanebook.proofs.write.Statement.{statement}
 use Rattle.lanebook.proofs.write.Tie as tie
-use Rattle.lanebook.proofs.write.Reads as reads
-use Rattle.lanebook.proofs.write.Lts as lts
-use Rattle.io.proofs.write_all.Reads as write-all-reads
-use Rattle.os.proofs.fail.Reads as fail-reads
 
 slice-aggregate-write-all : tie.Need-slice-aggregate-write-all
 slice-aggregate-write-all c = sym (length-take-le _ _ (c .before .before .pre))

@@ -1,5 +1,4 @@
 -- `paging::page_flat` meets its contract: vetting decides 1 and 2, and of a sound book, whose keys rise, a page is shown.
-use Prim.Native.Nat.{_≤_, _<_}
 use mathlib.Core.Path.{refl}
 use mathlib.Core.Logic.{inr}
 use mathlib.Core.List.{List}
@@ -10,7 +9,6 @@ use Rattle.rules.specs.declared.Row.{Row}
 use Rattle.flat.specs.Flat.{rowsIn, yardIn}
 use Rattle.flat.specs.Laws.{places-long, rows-long}
 use Rattle.bookfit.specs.Formed.{rising-keys}
-use Rattle.vet.specs.Vetted.{Vetted}
 use Rattle.paging.specs.Ends.{page-bad-map, page-bad-book}
 use Rattle.paging.proofs.page_flat.Statement.{statement}
 use Rattle.paging.proofs.page_flat.Tie as tie

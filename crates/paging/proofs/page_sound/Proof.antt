@@ -1,5 +1,4 @@
 -- `paging::page_sound` meets its contract: size, cursor and list are tested in the call's order, and a page that passes them is shown.
-use Prim.Native.Nat.{ℕ, _≤_, _<_}
 use mathlib.Core.Path.{_≡_, refl}
 use mathlib.Core.List.{List}
 use native.Mathlib.Omega.{arith}

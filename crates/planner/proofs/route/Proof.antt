@@ -1,6 +1,6 @@
 -- `planner::route` meets its contract: without a window to begin in, or with no window of the destination reached, no plan is permitted; else the trail
 -- to the window that the search found is the chosen plan.
-use Prim.Native.Nat.{_+_, _-_}
+use Prim.Native.Nat.{_+_}
 use mathlib.Core.Path.{_≡_, refl, sym}
 use native.Mathlib.Omega.{arith}
 use borrow.Author.Needs.{needs}

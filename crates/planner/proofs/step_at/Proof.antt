@@ -1,5 +1,5 @@
 -- `planner::step_at` meets its contract: the row of a window on a path is known by the window and the one after it.
-use Prim.Native.Nat.{_+_, _-_}
+use Prim.Native.Nat.{_+_}
 use mathlib.Core.Path.{ap, _∙_}
 use native.Mathlib.Omega.{arith}
 use borrow.Author.Needs.{needs}

@@ -1,5 +1,4 @@
 -- `planning::plan` meets its contract: the arrays are the map and the book, so that planning over them is planning on these.
-use Prim.Native.Nat.{_-_}
 use mathlib.Core.Path.{_≡_, refl}
 use lib.ListN.{length}
 use borrow.Author.Needs.{needs}

@@ -1,6 +1,6 @@
 -- `portal::lanebook_plan` meets its contract: the arrays are the slices, or break a rule where the slices' shape does, so that one call of
 -- planning over them decides all; its answer's count is at most the records of the caller's list, so that the packed number overflows nowhere.
-use Prim.Native.Nat.{ℕ, _/_, _≤_, _<_}
+use Prim.Native.Nat.{_<_}
 use mathlib.Core.Path.{refl}
 use native.Mathlib.Omega.{arith}
 use lib.ListN.{length}

@@ -1,7 +1,6 @@
 -- `portal::packed_page` meets its contract: a page's count, with 2,048 added where the book has more, and a refusal is its number times 2^32.
-use Prim.Native.Nat.{ℕ, _+_, _*_, _≤_}
-use mathlib.Core.Path.{_≡_, sym, ap, _∙_}
-use mathlib.Core.Bool.{Bool}
+use Prim.Native.Nat.{ℕ}
+use mathlib.Core.Path.{ap}
 use native.Mathlib.Omega.{arith}
 use borrow.Author.Needs.{needs}
 use Rattle.rules.specs.declared.Paged.{Paged}

@@ -1,6 +1,6 @@
 -- `portal::packed_plan` meets its contract: a plan's count is added to its arrival times 2,048, and a refusal is its number times 2^32.
-use Prim.Native.Nat.{ℕ, _+_, _*_, _≤_}
-use mathlib.Core.Path.{_≡_, sym, ap, _∙_}
+use Prim.Native.Nat.{ℕ}
+use mathlib.Core.Path.{ap}
 use native.Mathlib.Omega.{arith}
 use borrow.Author.Needs.{needs}
 use Rattle.rules.specs.declared.Planned.{Planned}

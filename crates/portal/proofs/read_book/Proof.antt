@@ -1,8 +1,5 @@
 -- `portal::read_book` meets its contract: where the count gives the slice's length, as many rows are read; else the arrays stay zeros.
-use Prim.Native.Nat.{ℕ, _+_, _*_, _≤_}
-use mathlib.Core.Path.{_≡_}
 use native.Mathlib.Omega.{arith}
-use lib.ListN.{length}
 use borrow.Author.Needs.{needs}
 use borrow.Author.Tests.{not-true, not-false}
 use Rattle.wire.specs.Slices.{BookShape}

@@ -1,6 +1,6 @@
 -- `search::trail` meets its contract, by recursion along the windows before: the label is the number that falls. A trail has fewer windows than there
 -- are labels below its last one's, with that one, so the path holds it.
-use Prim.Native.Nat.{ℕ, _+_, _-_, _<_}
+use Prim.Native.Nat.{ℕ, _<_}
 use mathlib.Core.Path.{_≡_}
 use native.Mathlib.Omega.{arith}
 use borrow.Author.Needs.{needs}

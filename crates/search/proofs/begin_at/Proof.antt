@@ -1,6 +1,5 @@
 -- `search::begin_at` meets its contract: what lies before the first window that ends late enough ends too soon, and where that one starts too late
 -- so do the others.
-use Prim.Native.Nat.{_-_}
 use native.Mathlib.Omega.{arith}
 use borrow.Author.Needs.{needs}
 use Rattle.search.specs.Offers.{begins-past, begins-late, begins-here, ends-rise}

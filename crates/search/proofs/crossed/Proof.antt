@@ -1,10 +1,9 @@
 -- `search::crossed` meets its contract: no row passed goes from q to p at t, and the first that does is the answer.
-use Prim.Native.Nat.{ℕ, _-_, _≤_, _<_}
+use Prim.Native.Nat.{_-_, _≤_}
 use mathlib.Core.Path.{_≡_}
-use mathlib.Core.Logic.{_⊎_, ⊎-elim}
+use mathlib.Core.Logic.{⊎-elim}
 use native.Mathlib.Omega.{arith}
 use borrow.Author.Needs.{needs}
-use borrow.Author.Count.{below-more}
 use Rattle.laws.specs.Lists.{at}
 use Rattle.laws.specs.Tests.{not-both}
 use Rattle.search.specs.Look.{NoneGoes, found-one, found-none, none-more}

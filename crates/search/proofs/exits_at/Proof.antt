@@ -1,7 +1,7 @@
 -- `search::exits_at` meets its contract: as long as the count is 0, no row passed exits at t. The count is at most the rows passed.
 use Prim.Native.Nat.{ℕ, _-_, _≤_, _<_}
 use mathlib.Core.Path.{_≡_}
-use mathlib.Core.Logic.{_⊎_, ⊎-elim}
+use mathlib.Core.Logic.{⊎-elim}
 use native.Mathlib.Omega.{arith}
 use borrow.Author.Needs.{needs}
 use borrow.Author.Count.{below-more}

@@ -1,5 +1,4 @@
 -- `search::relax_link` meets its contract: the windows of q stand from its first to the next place's first.
-use Prim.Native.Nat.{_-_}
 use borrow.Author.Needs.{needs}
 use Rattle.search.proofs.relax_link.Statement.{statement}
 use Rattle.search.proofs.relax_link.Tie as tie

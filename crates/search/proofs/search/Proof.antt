@@ -1,11 +1,9 @@
 -- `search::search` meets its contract. The invariant is the search's own (`Going`); a turn settles the open window of least entry, of those the first, and
 -- offers the way through it to every window; fewer windows are open after each turn. It may stop at the destination, since entries only rise.
-use Prim.Native.Nat.{_-_}
 use mathlib.Core.Path.{sym, _∙_}
 use native.Mathlib.Omega.{arith}
 use borrow.Author.Needs.{needs}
 use borrow.Author.Tests.{eq-eqb, ne-eqb}
-use Rattle.laws.specs.Lists.{at}
 use Rattle.flat.specs.Flat.{rowsIn, yardIn}
 use Rattle.settle.specs.Search.{Going, doneOf, opens, going-start, going-none, going-goal, closed-above, going-less, going-turn, in-n, low-u}
 use Rattle.search.specs.Relax.{nextBy}

@@ -1,6 +1,5 @@
 -- `search::try_window` meets its contract: where the label is no later than lo the entry is not taken, whatever it is; else it is worked out and
 -- offered.
-use Prim.Native.Nat.{_-_}
 use borrow.Author.Needs.{needs}
 use Rattle.search.specs.Offers.{tried-left, tried-at, offered-labels}
 use Rattle.search.proofs.try_window.Statement.{statement}

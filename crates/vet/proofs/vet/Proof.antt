@@ -1,5 +1,4 @@
 -- `vet::vet` meets its contract: the map's test decides first, then the book's, which also finds the windows.
-use Prim.Native.Nat.{_-_}
 use mathlib.Core.Path.{refl}
 use borrow.Author.Needs.{needs}
 use Rattle.vet.specs.Vetted.{vet-map, vet-book}
