@@ -1,9 +1,7 @@
 // The program's frames: a line of digits in, the state after it and the answer's digits out.
 use rules::Book;
 use rules::Booked;
-use rules::Booking;
 use rules::Cancelled;
-use rules::Cancelling;
 use rules::Cursor;
 use rules::Link;
 use rules::Map;
@@ -11,7 +9,6 @@ use rules::Paged;
 use rules::Place;
 use rules::Planned;
 use rules::Refusal;
-use rules::Row;
 use rules::State;
 ghost use mathlib.Core.Path.{_≡_};
 ghost use mathlib.Core.Bool.{true};
@@ -820,24 +817,13 @@ impl Desk {
             duration: 0,
         };
         let link = Link { from: 0, to: 0 };
-        let row = Row {
-            place: 0,
-            entry: 0,
-            ticket: 0,
-            exit: 0,
-            next: 0,
-        };
         let m = Map {
             places: [place; 256],
             links: [link; 1024],
             place_count: 0,
             link_count: 0,
         };
-        let b = Book {
-            rows: [row; 1024],
-            count: 0,
-            next_ticket: 1,
-        };
+        let b = ledger::empty_book();
         let s = State {
             map: m,
             book: b,
