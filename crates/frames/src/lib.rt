@@ -729,7 +729,7 @@ pub struct Intake {
 }
 
 // The answers of the lines that the bytes from an index on end, as long as the caller's list has room for one more. A line that leaves map and book
-// as they are copies neither.
+// as they are makes no new state.
 pub fn fed(d: Desk, buf: &[u8], from: usize, out: &mut [u8]) -> Intake
     ensures { λ r. ⌜ FedIs d (now (buf .entry)) from (now (out .entry)) (now (out .exit)) r ⌝ }
 {
