@@ -108,10 +108,10 @@ module _
           ends-le : at I (start + 1) ≤ m
           ends-le = Rattle.flat.specs.Links.group-end (L .by-place) (start + 1) (omega arith)
 
-      src-place : at P src ≡ start
+      pub src-place : at P src ≡ start
       src-place = L .by-place .of start src start-on (B .from b) (B .to b)
 
-      src-enter : Enter Y rows start s (win src) s
+      pub src-enter : Enter Y rows start s (win src) s
       src-enter = record {
         is = W .are src src-in;
         reach = rw src-place begin;

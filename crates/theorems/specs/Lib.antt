@@ -1,3 +1,4 @@
+pub mod Entries
 pub mod Freed
 pub mod Program
 pub mod Theorems

@@ -1,7 +1,7 @@
 -- What is proved: each demand as a theorem about the calls' own contracts (rules/specs/Answer.antt). Open this file first.
 -- That the calls meet these contracts, take every input and end is proved where they stand: crates/planning, booking, paging, records, portal, frames.
 -- Free windows are exactly those of the rules by `AllWindows` (windows/specs/Places.antt); that each window's label is its earliest entry, or the mark,
--- is `every-entry` and `sooner-entry` (planner/specs/Route.antt).
+-- is `every-window` (Entries.antt beside this file) of a search that is let run to its end, `every-entry` and `sooner-entry` (planner/specs/Route.antt) of one for a plan.
 use Prim.Native.Nat.{ℕ, suc, _+_, _≤_, _<_}
 use mathlib.Core.Path.{_≡_, sym, ap, subst, _∙_}
 use mathlib.Core.Logic.{_⊎_, inl, inr, ⊎-elim}
