@@ -11,16 +11,16 @@ use Rattle.laws.specs.Lists.{at}
 use Rattle.rules.specs.declared.Row.{Row}
 use Rattle.rules.specs.Limits.{rowLimit, ticketLimit}
 use Rattle.rules.specs.Map.{Yard, MapRules, linked}
-use Rattle.rules.specs.Rows.{Rising, load}
+use Rattle.rules.specs.Rows.{load}
 use Rattle.rules.specs.Book.{Ranges, WellFormed}
 use Rattle.lanes.specs.Yards.{YardRules, yard-rules}
 use Rattle.flat.specs.Flat.{placesIn, linksIn, yardIn, Of, rowsIn, Packed, KeysRise}
 use Rattle.flat.specs.Laws.{rows-long, row-in, yard-of}
+use Rattle.lookup.specs.Order.{keys-rising, rising-keys}
 use Rattle.chains.specs.Laws.{tested-whole, whole-tested}
 use Rattle.bookfit.specs.Join.{Joined, OneLast}
 use Rattle.bookfit.specs.Rows.{TicketsFit, RowFits, RowsFit}
 use Rattle.bookfit.specs.Against.{Unopposed}
-use Rattle.bookfit.specs.Keys.{less-key, key-less}
 use Rattle.bookfit.specs.Bridge.{unopposed-exchange, exchange-unopposed, index-tested, tested-fits, tested-joined, tested-one-last}
 
 -- what is asked of the rows before their place's room is looked at
@@ -39,26 +39,6 @@ pub record Tests (C D : List ℕ) (n : ℕ) (F T : List ℕ) (k : ℕ) (K X N : 
   pub sound : Sound D n F T k K X N count t
   pub room : (p s : ℕ) → p < n → load (rowsIn K X N count) p s ≤ at C p
   pub exchange : Unopposed (at K) (at X) (at N) count
-
--- ---- order
-
-module _ (K X N : List ℕ) (count : ℕ) where
-  pub keys-rising : KeysRise K count → Rising (rowsIn K X N count)
-  keys-rising R = record {
-    rise = λ i j h k.
-        let c = rows-long K X N count in
-        let hi : i < count = omega arith in
-        let hj : j < count = omega arith in
-        rw (row-in K X N count i hi, row-in K X N count j hj) (less-key (at K i) (at K j) (R .rise i j h hj));
-  }
-
-  pub rising-keys : Rising (rowsIn K X N count) → KeysRise K count
-  rising-keys R = record {
-    rise = λ i j h k.
-        let c = rows-long K X N count in
-        let hi : i < count = omega arith in
-        key-less (at K i) (at K j) (rw (row-in K X N count i hi, row-in K X N count j k) at (R .rise i j h (omega arith)));
-  }
 
 -- ---- rows of the arrays' map, by the yard that they make
 

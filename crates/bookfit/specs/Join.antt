@@ -12,12 +12,6 @@ nextKey key exit next = keyOf next exit (ticketOf key)
 abbrev pub IsLast : ℕ → ℕ → Type 0
 IsLast key next = next ≡ placeOf key
 
--- k stands at r, or r is n and k stands nowhere
-pub record Spot (K : ℕ → ℕ) (n k r : ℕ) : Type 0 where
-  pub within : r ≤ n
-  pub here : r < n → K r ≡ k
-  pub nowhere : r ≡ n → (i : ℕ) → i < n → K i ≡ k → ⊥
-
 pub record Found (K : ℕ → ℕ) (n k : ℕ) : Type 0 where
   pub at : ℕ
   pub within : at < n

@@ -1,5 +1,4 @@
 pub mod Each
-pub mod Search
 pub mod Join
 pub mod Marks
 pub mod Rows

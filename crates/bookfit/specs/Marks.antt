@@ -1,4 +1,4 @@
--- The loops over a book's rows: the answer of a search for a key, the successors found so far with the marks of those taken,
+-- The loops over a book's rows: the successors found so far with the marks of those taken,
 -- and the last rows met so far with the marks of their tickets' slots. Each holds at first, is kept by a turn and gives the answer.
 use Prim.Native.Nat.{ℕ, _+_, _-_, _%_, _≤_, _<_}
 use mathlib.Core.Path.{_≡_, refl, sym, ap, subst, _∙_}
@@ -13,23 +13,9 @@ use borrow.Author.Tests.{eq-eqb, eqb-true}
 use Rattle.laws.specs.Order.{lt-or-ge, eq-or-ne}
 use Rattle.laws.specs.Tests.{not-both}
 use Rattle.bookfit.specs.Each.{below-next}
-use Rattle.bookfit.specs.Search.{Split}
 use Rattle.flat.specs.Flat.{placeOf, ticketOf}
-use Rattle.bookfit.specs.Join.{nextKey, IsLast, Spot, Found, Joined, OneLast, LastBelow, Clash}
-
--- a search's answer
-pub spot-first : (K : ℕ → ℕ) (n k j : ℕ) → Split K k 0 n j → j ≡ 0 → Spot K n k n
-spot-first K n k j s e = record { within = omega arith; here = λ h. absurd (omega arith); nowhere = λ _ i h q. omega (arith, s .high i (omega arith) h) }
-
-module _ (K : ℕ → ℕ) (n k j : ℕ) (s : Split K k 0 n j) (some : 0 < j) where
-  pub spot-other : ((a b : ℕ) → a ≤ b → b < n → K a ≤ K b) → (K (j - 1) ≡ k → ⊥) → Spot K n k n
-  spot-other mono ne = record { within = omega arith; here = λ h. absurd (omega arith); nowhere = λ _ i h q. ⊎-elim (λ (a : i < j). low i h q a) (λ (a : j ≤ i). omega (arith, s .high i a h)) (lt-or-ge i j) }
-    where
-      low : (i : ℕ) → i < n → K i ≡ k → i < j → ⊥
-      low i h q a = ne (omega (arith, mono i (j - 1) (omega arith) (omega (arith, s .to)), s .low (j - 1) (omega arith) (omega arith)))
-
-  pub spot-found : K (j - 1) ≡ k → Spot K n k (j - 1)
-  spot-found e = record { within = omega (arith, s .to); here = λ h. e; nowhere = λ q. absurd (omega (arith, s .to)) }
+use Rattle.lookup.specs.Keys.{Spot}
+use Rattle.bookfit.specs.Join.{nextKey, IsLast, Found, Joined, OneLast, LastBelow, Clash}
 
 module _ (K X N : ℕ → ℕ) (n : ℕ) where
   abbrev pub goes : ℕ → Type 0

@@ -8,71 +8,11 @@ ghost use lib.Dec.{eqb};
 ghost use Rattle.laws.specs.Lists.{at};
 ghost use Rattle.rules.specs.Map.{linked, MapRules};
 ghost use Rattle.flat.specs.Flat.{placesIn, linksIn, Chained, placeOf, entryOf, ticketOf, rowOf, Packed, KeysRise, Grouped};
-ghost use Rattle.bookfit.specs.Search.{Split};
-ghost use Rattle.bookfit.specs.Join.{nextKey, IsLast, Spot, Joined, OneLast, LastBelow};
+ghost use Rattle.bookfit.specs.Join.{nextKey, IsLast, Joined, OneLast, LastBelow};
 ghost use Rattle.bookfit.specs.Rows.{TicketFits, TicketsFit, RowFits, RowsFit};
 ghost use Rattle.bookfit.specs.Against.{Crossed, Opposed, Unopposed, crossSlot};
 ghost use Rattle.bookfit.specs.Formed.{Sound};
 ghost use Rattle.bookfit.specs.Answer.{BookFits};
-
-// ---- a key among the keys of the book
-
-// 1 where x is at most k, else 0, by a sum and not a branch
-fn at_most(x: u64, k: u64) -> usize
-    requires { ⌜ x < 72057594037927936 ⌝ }
-    requires { ⌜ k < 72057594037927936 ⌝ }
-    ensures { λ r. ⌜ (r ≤ 1) × (x ≤ k → r ≡ 1) × (k < x → r ≡ 0) ⌝ }
-{
-    ((k + 1152921504606846976 - x) / 1152921504606846976) as usize
-}
-
-// d where x is at most k, else 0
-fn hop(x: u64, k: u64, d: usize) -> usize
-    requires { ⌜ x < 72057594037927936 ⌝ }
-    requires { ⌜ k < 72057594037927936 ⌝ }
-    requires { ⌜ d ≤ 1024 ⌝ }
-    ensures { λ r. ⌜ (r ≤ d) × (x ≤ k → r ≡ d) × (k < x → r ≡ 0) ⌝ }
-{
-    d * at_most(x, k)
-}
-
-// the first of keys a .. b that is above k, b where there is none
-pub fn first_above(key: &[u64; 1024], a: usize, b: usize, k: u64) -> usize
-    requires { ⌜ a ≤ b ⌝ }
-    requires { ⌜ b ≤ 1024 ⌝ }
-    requires { ⌜ k < 72057594037927936 ⌝ }
-    requires { ⌜ ((i : ℕ) → at (now key) i < 72057594037927936) ⌝ }
-    requires { ⌜ KeysRise (now key) b ⌝ }
-    ensures { λ r. ⌜ Split (at (now (key .entry))) k a b r ⌝ }
-{
-    let mut base = a;
-    let mut left = b - a;
-    while left > 0 {
-        let half = left / 2;
-        base += hop(key[base + half], k, left - half);
-        left = half;
-    }
-    base
-}
-
-// where k stands among the first n keys, n where it does not
-pub fn spot_of(key: &[u64; 1024], n: usize, k: u64) -> usize
-    requires { ⌜ n ≤ 1024 ⌝ }
-    requires { ⌜ k < 72057594037927936 ⌝ }
-    requires { ⌜ ((i : ℕ) → at (now key) i < 72057594037927936) ⌝ }
-    requires { ⌜ KeysRise (now key) n ⌝ }
-    ensures { λ r. ⌜ Spot (at (now (key .entry))) n k r ⌝ }
-{
-    let j = first_above(key, 0, n, k);
-    if j == 0 {
-        return n;
-    }
-    let x = key[j - 1];
-    if x != k {
-        return n;
-    }
-    j - 1
-}
 
 // ---- the rows of a ticket are one run
 
@@ -100,12 +40,14 @@ pub fn rows_join(key: &[u64; 1024], exit: &[u32; 1024], next: &[u8; 1024], count
     requires { ⌜ KeysRise (now key) count ⌝ }
     ensures { λ r. ⌜ (r ≡ true → Joined (at (now (key .entry))) (at (now (exit .entry))) (at (now (next .entry))) count count) × (Joined (at (now (key .entry))) (at (now (exit .entry))) (at (now (next .entry))) count count → r ≡ true) ⌝ }
 {
+    let mut hint = [0u16; 2048];
+    lookup::fill_hints(key, count, &mut hint);
     let mut taken = [false; 1024];
     let mut i = 0;
     while i < count {
         if !is_last(key[i], next[i]) {
             let k = next_key(key[i], exit[i], next[i]);
-            let j = spot_of(key, count, k);
+            let j = lookup::hinted(key, &hint, count, k);
             if j >= count {
                 return false;
             }

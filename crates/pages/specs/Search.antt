@@ -15,7 +15,7 @@ use Rattle.rules.specs.Rows.{Key, rowKey, rowAt, lessb}
 use Rattle.flat.specs.Flat.{rowsIn, KeysRise}
 use Rattle.flat.specs.Laws.{rows-long, row-in}
 use Rattle.keeping.specs.OrderLaws.{less-trans, less-lessb, lessb-less}
-use Rattle.bookfit.specs.Keys.{keyIs, less-key}
+use Rattle.lookup.specs.Order.{keyIs, less-key}
 
 -- no row before r is above the key, and every row from r on is
 pub record FirstAfter (rows : List Row) (k : Key) (r : ℕ) : Type 0 where

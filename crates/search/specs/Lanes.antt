@@ -14,9 +14,11 @@ use Rattle.rules.specs.declared.Link.{Link}
 use Rattle.rules.specs.Map.{Yard, MapRules}
 use Rattle.rules.specs.Window.{Window}
 use Rattle.lanes.specs.Nodes.{Windows, mono, later}
-use Rattle.flat.specs.Flat.{placesIn, linksIn, yardIn, Of, Chained, spanAt, Grouped}
+use Rattle.flat.specs.Flat.{placesIn, linksIn, yardIn, Of, Chained, rowsIn, spanAt, Grouped}
 use Rattle.flat.specs.Laws.{places-long, place-in, links-long, link-in, yard-of}
 use Rattle.flat.specs.Links.{group-end}
+use Rattle.lookup.specs.Crossings.{ByPlace}
+use Rattle.lookup.specs.Booked.{Booked, booked-by-place}
 use Rattle.search.specs.Offers.{Row1}
 use Rattle.search.specs.Relax.{Ground, Runs, nextBy}
 
@@ -24,6 +26,7 @@ pub record Lanes (C D F T H N : List ℕ) (n k : ℕ) (rows : List Row) (c : ℕ
   pub rules : MapRules (placesIn C D n) (linksIn F T k)
   pub chained : Chained F k H N
   pub few-rows : c ≤ 1024
+  pub booked : Booked rows
   pub windows : Windows (yardIn C D n F T k) rows m (spanAt P S E)
   pub by-place : Grouped (at P) I n m
   pub few : m ≤ 1280
@@ -64,6 +67,7 @@ module _ {C D F T H N : List ℕ} {n k : ℕ} {rows : List Row} {c : ℕ} {P S E
     windows = L .few;
     chained = L .chained;
     to-on = λ j h. let l = links-long F T k in omega (arith, L .rules .to-on j (omega arith), ap (λ (x : Link). x .to) (link-in F T k j h), places-long C D n);
+    apart = λ j h e. let l = links-long F T k in let x = link-in F T k j h in L .rules .apart j (omega arith) (ap (λ (x : Link). x .from) x ∙ sym e ∙ sym (ap (λ (x : Link). x .to) x));
     durs = λ p h. omega (arith, L .rules .dur-to p (omega (arith, places-long C D n)), ap (λ (x : Place). x .duration) (place-in C D n p h));
     by-place = L .by-place;
     of-place = of-place;
@@ -88,3 +92,7 @@ module _ {C D F T H N : List ℕ} {n k : ℕ} {rows : List Row} {c : ℕ} {P S E
 
   pub lanes-later : (w v e : ℕ) → w < m → e < 86401 → e < nextBy Y rows P S E w v e
   lanes-later = later Y rows m (spanAt P S E) (L .windows) (yard .long)
+
+-- crossings may be looked up by place in the arrays that hold the rows
+pub lanes-by-place : {C D F T H L : List ℕ} {n k : ℕ} {K X N : List ℕ} {c : ℕ} {P S E I : List ℕ} {m : ℕ} → Lanes C D F T H L n k (rowsIn K X N c) c P S E I m → ByPlace K X N c
+lanes-by-place {K = K} {X} {N} {c} A = booked-by-place K X N c (A .few-rows) (A .booked)

@@ -28,6 +28,7 @@ pub record Ground (n k c m : ℕ) (D F T H N P S E I : List ℕ) : Type 0 where
   pub windows : m ≤ 1280
   pub chained : Chained F k H N
   pub to-on : (j : ℕ) → j < k → at T j < n
+  pub apart : (j : ℕ) → j < k → at T j ≡ at F j → ⊥
   pub durs : (p : ℕ) → p < n → at D p ≤ 3600
   pub by-place : Grouped (at P) I n m
   pub of-place : (q : ℕ) → q < n → Row1 S E (at I q) (at I (q + 1)) (at D q)

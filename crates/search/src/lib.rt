@@ -4,10 +4,9 @@ ghost use mathlib.Core.Bool.{true, false};
 ghost use Prim.Native.Nat.{ℕ, _+_, _-_, _≤_, _<_, min, max};
 ghost use lib.ListN.{length};
 ghost use Rattle.laws.specs.Lists.{at};
-ghost use Rattle.rules.specs.Rows.{crosses};
-ghost use Rattle.flat.specs.Flat.{rowsIn, placeOf, yardIn};
+ghost use Rattle.flat.specs.Flat.{rowsIn, yardIn};
 ghost use Rattle.settle.specs.Blocks.{Blocks};
-ghost use Rattle.search.specs.Look.{CrossedAmong};
+ghost use Rattle.lookup.specs.Crossings.{ByPlace, Between};
 ghost use Rattle.search.specs.Entries.{FirstClear};
 ghost use Rattle.search.specs.Offers.{Row1, Labels, Tried, OfferedTo, OpenFrom, BeginsAt};
 ghost use Rattle.settle.specs.Search.{Answer, Rooted};
@@ -45,114 +44,6 @@ fn sooner(a: u32, b: u32) -> u32
     b
 }
 
-// How many of the rows a .. b exit at t: with none there is no crossing to look for.
-fn exits_at(exit: &[u32; 1024], a: usize, b: usize, t: u32) -> u32
-    requires { ⌜ (a ≤ b) × (b ≤ 1024) ⌝ }
-    ensures { λ r. ⌜ (r ≡ 0 → (i : ℕ) → a ≤ i → i < b → at (now (exit .entry)) i ≡ t → ⊥) ⌝ }
-{
-    let mut c: u32 = 0;
-    let mut i = a;
-    while i < b {
-        if exit[i] == t {
-            c += 1;
-        }
-        i += 1;
-    }
-    c
-}
-
-// A row of this key and next place goes from q to p.
-fn goes(key: u64, next: u8, q: u8, p: u8) -> bool
-    ensures { λ r. ⌜ (r ≡ true → (placeOf key ≡ q) × (next ≡ p)) × ((placeOf key ≡ q) × (next ≡ p) → r ≡ true) ⌝ }
-{
-    if next != p {
-        return false;
-    }
-    key / 281474976710656 == q as u64
-}
-
-// One of the rows a .. b goes from q to p at t.
-fn crossed(
-    key: &[u64; 1024],
-    exit: &[u32; 1024],
-    next: &[u8; 1024],
-    a: usize,
-    b: usize,
-    q: u8,
-    p: u8,
-    t: u32,
-) -> bool
-    requires { ⌜ (a ≤ b) × (b ≤ 1024) ⌝ }
-    ensures { λ r. ⌜ CrossedAmong (now (key .entry)) (now (exit .entry)) (now (next .entry)) a b q p t r ⌝ }
-{
-    let mut i = a;
-    while i < b {
-        if exit[i] == t {
-            if goes(key[i], next[i], q, p) {
-                return true;
-            }
-        }
-        i += 1;
-    }
-    false
-}
-
-// The same, with a look only where a row exits at t.
-fn crossed_in(
-    key: &[u64; 1024],
-    exit: &[u32; 1024],
-    next: &[u8; 1024],
-    a: usize,
-    b: usize,
-    q: u8,
-    p: u8,
-    t: u32,
-) -> bool
-    requires { ⌜ (a ≤ b) × (b ≤ 1024) ⌝ }
-    ensures { λ r. ⌜ CrossedAmong (now (key .entry)) (now (exit .entry)) (now (next .entry)) a b q p t r ⌝ }
-{
-    if exits_at(exit, a, b, t) == 0 {
-        return false;
-    }
-    crossed(key, exit, next, a, b, q, p, t)
-}
-
-// The end of the block of at most 128 rows that begins at a.
-fn block_end(a: usize, n: usize) -> usize
-    requires { ⌜ (a < n) × (n ≤ 1024) ⌝ }
-    ensures { λ r. ⌜ (a < r) × (r ≤ n) ⌝ }
-{
-    let b = a + 128;
-    if b < n {
-        return b;
-    }
-    n
-}
-
-// The crossing from p to q at t is barred: a booked run goes from q to p then. All rows are looked through, block after block.
-pub fn barred(
-    key: &[u64; 1024],
-    exit: &[u32; 1024],
-    next: &[u8; 1024],
-    n: usize,
-    q: u8,
-    p: u8,
-    t: u32,
-) -> bool
-    requires { ⌜ n ≤ 1024 ⌝ }
-    ensures { λ r. ⌜ r ≡ crosses (rowsIn (now (key .entry)) (now (exit .entry)) (now (next .entry)) n) q p t ⌝ }
-{
-    let mut a: usize = 0;
-    while a < n {
-        let b = block_end(a, n);
-        if crossed_in(key, exit, next, a, b, q, p, t) {
-            return true;
-        }
-        a = b;
-    }
-    false
-}
-
 // The least second of lo to hi at which the crossing is not barred, 86,401 where there is none.
 fn first_entry(
     key: &[u64; 1024],
@@ -164,7 +55,7 @@ fn first_entry(
     lo: u32,
     hi: u32,
 ) -> u32
-    requires { ⌜ n ≤ 1024 ⌝ }
+    requires { ⌜ Between (now key) (now exit) (now next) n q p ⌝ }
     requires { ⌜ hi ≤ 86400 ⌝ }
     ensures { λ r. ⌜ FirstClear (rowsIn (now (key .entry)) (now (exit .entry)) (now (next .entry)) n) q p lo hi r ⌝ }
 {
@@ -173,7 +64,7 @@ fn first_entry(
         if t > hi {
             break 'window 86401;
         }
-        if !barred(key, exit, next, n, q, p, t) {
+        if !lookup::barred(key, exit, next, n, q, p, t) {
             break t;
         }
         t += 1;
@@ -197,7 +88,7 @@ fn try_window(
     least: &mut [u32; 40],
     before: &mut [u16; 1280],
 )
-    requires { ⌜ n ≤ 1024 ⌝ }
+    requires { ⌜ Between (now key) (now exit) (now next) n q p ⌝ }
     requires { ⌜ hi ≤ 86400 ⌝ }
     requires { ⌜ (v < 1280) × (w < 1280) ⌝ }
     requires { ⌜ Labels (now label) (now live) (now before) ⌝ }
@@ -250,7 +141,7 @@ fn relax_place(
     least: &mut [u32; 40],
     before: &mut [u16; 1280],
 )
-    requires { ⌜ n ≤ 1024 ⌝ }
+    requires { ⌜ Between (now key) (now exit) (now next) n q p ⌝ }
     requires { ⌜ (a ≤ b) × (b ≤ 1280) × (w < 1280) ⌝ }
     requires { ⌜ (d ≤ 3600) × (soonest ≤ 90000) × (leave ≤ 86400) ⌝ }
     requires { ⌜ Row1 (now start) (now end) a b d ⌝ }
@@ -307,7 +198,7 @@ fn relax_link(
     least: &mut [u32; 40],
     before: &mut [u16; 1280],
 )
-    requires { ⌜ (n ≤ 1024) × (w < 1280) × (soonest ≤ 90000) × (leave ≤ 86400) ⌝ }
+    requires { ⌜ Between (now key) (now exit) (now next) n q p × (w < 1280) × (soonest ≤ 90000) × (leave ≤ 86400) ⌝ }
     requires { ⌜ (at (now first) q ≤ at (now first) (q + 1)) × (at (now first) (q + 1) ≤ 1280) × (at (now dur) q ≤ 3600) ⌝ }
     requires { ⌜ Row1 (now start) (now end) (at (now first) q) (at (now first) (q + 1)) (at (now dur) q) ⌝ }
     requires { ⌜ Labels (now label) (now live) (now before) ⌝ }
@@ -365,7 +256,7 @@ fn relax(
     before: &mut [u16; 1280],
 )
     requires { ⌜ Ground places links n windows (now dur) (now from) (now to) (now head) (now chain) (now place) (now start) (now end) (now first) ⌝ }
-    requires { ⌜ (w < windows) × (at (now label) w ≤ 86400) ⌝ }
+    requires { ⌜ (w < windows) × (at (now label) w ≤ 86400) × ByPlace (now key) (now exit) (now next) n ⌝ }
     requires { ⌜ Labels (now label) (now live) (now before) ⌝ }
     requires { ⌜ Blocks (now live) (now least) ⌝ }
     ensures { λ _. ⌜ Relaxed (rowsIn (now (key .entry)) (now (exit .entry)) (now (next .entry)) n) places links windows (now (dur .entry)) (now (from .entry)) (now (to .entry)) (now (place .entry)) (now (start .entry)) (now (end .entry)) w (now (label .entry)) (now (live .entry)) (now (before .entry)) (now (label .exit)) (now (live .exit)) (now (before .exit)) × (Labels (now (label .exit)) (now (live .exit)) (now (before .exit)) × Blocks (now (live .exit)) (now (least .exit))) ⌝ }

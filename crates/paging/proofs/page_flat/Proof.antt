@@ -8,7 +8,7 @@ use Rattle.laws.specs.Lists.{zeros}
 use Rattle.rules.specs.declared.Row.{Row}
 use Rattle.flat.specs.Flat.{rowsIn, yardIn}
 use Rattle.flat.specs.Laws.{places-long, rows-long}
-use Rattle.bookfit.specs.Formed.{rising-keys}
+use Rattle.lookup.specs.Order.{rising-keys}
 use Rattle.paging.specs.Ends.{page-bad-map, page-bad-book}
 use Rattle.paging.proofs.page_flat.Statement.{statement}
 use Rattle.paging.proofs.page_flat.Tie as tie

@@ -20,7 +20,7 @@ window-holds : tie.Need-window-holds Inv-window μ-window
 window-holds c = barred-start _ _ _ _
 
 barred-requires : tie.Need-barred-requires Inv-window μ-window
-barred-requires c κs = search needs
+barred-requires c κs = let s = c .before .before in (s .pre .0, omega arith)
 
 add-t : tie.Need-add-t Inv-window μ-window
 add-t c = search needs

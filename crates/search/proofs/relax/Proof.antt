@@ -1,7 +1,7 @@
 -- `search::relax` meets its contract: the links of p are followed from the last to the first, each offering the windows of the place that it leads to;
 -- the other windows have no entry from w. The number of the link falls.
 use Prim.Native.Nat.{ℕ, suc, _+_, _-_, _<_}
-use mathlib.Core.Path.{_≡_, refl, ap, subst, _∙_}
+use mathlib.Core.Path.{_≡_, refl, sym, ap, subst, _∙_}
 use native.Mathlib.Omega.{arith}
 use borrow.Author.Needs.{needs}
 use Rattle.laws.specs.Lists.{at}
@@ -80,11 +80,12 @@ relax-link-requires c κs =
     let a = s .args in
     let j : ℕ = l .cur - 1 in
     let jk : j < a .links = omega (arith, l .inv .within, c .before .before .before .before .before .loop-test .taken) in
+    let ej : suc j ≡ l .cur = omega (arith, c .before .before .before .before .before .loop-test .taken) in
     let q : ℕ = at (a .to .now) j in
     let qn : q < a .places = G .to-on j jk in
     let h = group-place (G .by-place) (a .w) (s .pre .1 .0 .0) in
     let e = ap (at (a .dur .now)) (c .before .before .before .before .before .before .before .before .before .before .before .before .wide .ensures .0) in (
-      (G .rows, omega (arith, G .windows, s .pre .1 .0 .0), omega (arith, s .pre .1 .0 .1, G .durs (at (a .place .now) (a .w)) h), G .in-day (a .w) (s .pre .1 .0 .0)),
+      (record { by-place = s .pre .1 .0 .2; apart = λ z. G .apart j jk (z ∙ sym (l .inv .leaves j ej)) }, omega (arith, G .windows, s .pre .1 .0 .0), omega (arith, s .pre .1 .0 .1, G .durs (at (a .place .now) (a .w)) h), G .in-day (a .w) (s .pre .1 .0 .0)),
       (
         (G .by-place .up q qn, omega (arith, group-end (G .by-place) (q + 1) (omega arith), G .windows), G .durs q qn),
         (G .of-place q qn, (l .inv .labels, l .inv .blocks)),
