@@ -10,25 +10,23 @@ use Rattle.rules.specs.declared.Place.{Place}
 use Rattle.rules.specs.Limits.{day}
 use Rattle.rules.specs.Map.{MapRules}
 use Rattle.rules.specs.Book.{WellFormed}
-use Rattle.lanes.specs.Yards.{yard-rules}
 use Rattle.lanes.specs.Nodes.{Windows}
 use Rattle.flat.specs.Flat.{placesIn, linksIn, yardIn, placeOf, rowsIn, Packed, spanAt, Grouped}
 use Rattle.flat.specs.Laws.{places-long, place-in, links-long, yard-of}
+use Rattle.lookup.specs.Crossings.{ByPlace}
 use Rattle.windows.specs.Places.{Given, AllWindows}
-use Rattle.bookfit.specs.Join.{IsLast}
+use Rattle.bookfit.specs.Keys.{next-parts}
 use Rattle.bookfit.specs.Against.{Unopposed}
 use Rattle.bookfit.specs.Formed.{Sound, Tests, tests-formed, formed-tests}
 
--- r windows, with each window's place P, start S and end E, and each place's first window A and first row R
-pub record BookFits (C D : List ℕ) (n : ℕ) (F T : List ℕ) (k : ℕ) (K X N : List ℕ) (count t r : ℕ) (R S E P A : List ℕ) : Type 0 where
+-- r windows, with each window's place P, start S and end E, and each place's first window A
+pub record BookFits (C D : List ℕ) (n : ℕ) (F T : List ℕ) (k : ℕ) (K X : List ℕ) (count t r : ℕ) (S E P A : List ℕ) : Type 0 where
   pub bound : r ≤ 1281
-  pub bad : r ≡ 1281 → WellFormed (yardIn C D n F T k) (rowsIn K X N count) t → ⊥
-  pub formed : r < 1281 → WellFormed (yardIn C D n F T k) (rowsIn K X N count) t
-  pub windows : r < 1281 → Windows (yardIn C D n F T k) (rowsIn K X N count) r (spanAt P S E)
+  pub bad : r ≡ 1281 → WellFormed (yardIn C D n F T k) (rowsIn K X count) t → ⊥
+  pub formed : r < 1281 → WellFormed (yardIn C D n F T k) (rowsIn K X count) t
+  pub windows : r < 1281 → Windows (yardIn C D n F T k) (rowsIn K X count) r (spanAt P S E)
   pub by-place : r < 1281 → Grouped (at P) A n r
-  pub rows-by-place : r < 1281 → Grouped (λ i. placeOf (at K i)) R n count
   pub ends-in-day : r < 1281 → (i : ℕ) → i < r → at E i ≤ day
-  pub len-R : length R ≡ 257
   pub len-S : length S ≡ 1280
   pub len-E : length E ≡ 1280
   pub len-P : length P ≡ 1280
@@ -37,9 +35,9 @@ pub record BookFits (C D : List ℕ) (n : ℕ) (F T : List ℕ) (k : ℕ) (K X N
 pub few-links : (C D : List ℕ) (n : ℕ) (F T : List ℕ) (k : ℕ) → MapRules (placesIn C D n) (linksIn F T k) → k ≤ 1024
 few-links C D n F T k M = omega (arith, M .few-links, links-long F T k)
 
-module _ (C D : List ℕ) (n : ℕ) (F T : List ℕ) (k : ℕ) (K X N : List ℕ) (count t : ℕ) (M : MapRules (placesIn C D n) (linksIn F T k)) (Q : Packed K X) where
+module _ (C D : List ℕ) (n : ℕ) (F T : List ℕ) (k : ℕ) (K X : List ℕ) (count t : ℕ) (M : MapRules (placesIn C D n) (linksIn F T k)) where
   -- what finding the windows asks for
-  pub sound-given : Sound D n F T k K X N count t → Given n count C D K X
+  pub sound-given : Sound D n F T k K X count t → Given n count C D K X
   sound-given S =
       let l = places-long C D n in
       record {
@@ -49,7 +47,6 @@ module _ (C D : List ℕ) (n : ℕ) (F T : List ℕ) (k : ℕ) (K X N : List ℕ
         cap-to = λ p h. omega (arith, M .cap-to p (omega arith), ap (λ (x : Place). x .capacity) (place-in C D n p h));
         dur-from = λ p h. omega (arith, M .dur-from p (omega arith), ap (λ (x : Place). x .duration) (place-in C D n p h));
         dur-to = λ p h. omega (arith, M .dur-to p (omega arith), ap (λ (x : Place). x .duration) (place-in C D n p h));
-        packed = Q;
         rising = S .rise;
         on-map = λ i h. S .fits .each i h .on-map;
         lasts = λ i h.
@@ -60,48 +57,53 @@ module _ (C D : List ℕ) (n : ℕ) (F T : List ℕ) (k : ℕ) (K X N : List ℕ
         in-day = λ i h. S .fits .each i h .in-day;
       }
 
-  -- what the exchange test asks for
-  pub sound-next : Sound D n F T k K X N count t → (i : ℕ) → i < count → (IsLast (at K i) (at N i) → ⊥) → at N i < n
-  sound-next S i h g = omega (arith, yard-rules M .to-on (placeOf (at K i)) (at N i) (S .fits .each i h .linked g), places-long C D n)
+  -- what the exchange test asks for: a row that goes on has its successor, which enters where and when it leaves
+  pub sound-by-place : Packed K → Sound D n F T k K X count t → ByPlace K X count
+  sound-by-place Q S = record {
+    timed = record {
+      keyed = record { few = S .few; small = λ i _. Q .keys i; rises = S .rise };
+      lasts = λ i h. sound-given S .lasts i h;
+    };
+    goes-in = λ i h g.
+        let f = S .joined .found i h g in
+        let q = next-parts (at K i) (at X i) (at K (f .at)) (omega (arith, S .fits .each i h .in-day)) (f .is) in
+        record { row = f .at; within = f .within; place = q .0; entry = q .1 };
+  }
 
-  module _ (R S E P A : List ℕ) where
+  module _ (S E P A : List ℕ) where
     -- a test that fails
-    pub not-formed : (Tests C D n F T k K X N count t → ⊥) → length R ≡ 257 → length S ≡ 1280 → length E ≡ 1280 → length P ≡ 1280 → length A ≡ 257
-        → BookFits C D n F T k K X N count t 1281 R S E P A
-    not-formed f r s e p a = record {
+    pub not-formed : (Tests C D n F T k K X count t → ⊥) → length S ≡ 1280 → length E ≡ 1280 → length P ≡ 1280 → length A ≡ 257
+        → BookFits C D n F T k K X count t 1281 S E P A
+    not-formed f s e p a = record {
       bound = omega arith;
-      bad = λ _ W. f (formed-tests C D n F T k K X N count t M Q W);
+      bad = λ _ W. f (formed-tests C D n F T k K X count t M W);
       formed = λ h. absurd (omega arith);
       windows = λ h. absurd (omega arith);
       by-place = λ h. absurd (omega arith);
-      rows-by-place = λ h. absurd (omega arith);
       ends-in-day = λ h. absurd (omega arith);
-      len-R = r;
       len-S = s;
       len-E = e;
       len-P = p;
       len-A = a;
     }
 
-    module _ (w : ℕ) (all : AllWindows n count C D K X w R S E P A) where
-      pub overfull-book : w ≡ 1281 → BookFits C D n F T k K X N count t 1281 R S E P A
-      overfull-book e = not-formed (λ z. let o = all .overfull e N in omega (arith, o .3, z .room (o .0) (o .1) (o .2))) (all .len-R) (all .len-S) (all .len-E) (all .len-P) (all .len-F)
+    module _ (w : ℕ) (all : AllWindows n count C D K X w S E P A) where
+      pub overfull-book : w ≡ 1281 → BookFits C D n F T k K X count t 1281 S E P A
+      overfull-book e = not-formed (λ z. let o = all .overfull e in omega (arith, o .3, z .room (o .0) (o .1) (o .2))) (all .len-S) (all .len-E) (all .len-P) (all .len-F)
 
-      pub opposed-book : (Unopposed (at K) (at X) (at N) count → ⊥) → BookFits C D n F T k K X N count t 1281 R S E P A
-      opposed-book f = not-formed (λ z. f (z .exchange)) (all .len-R) (all .len-S) (all .len-E) (all .len-P) (all .len-F)
+      pub opposed-book : (Unopposed (at K) (at X) count → ⊥) → BookFits C D n F T k K X count t 1281 S E P A
+      opposed-book f = not-formed (λ z. f (z .exchange)) (all .len-S) (all .len-E) (all .len-P) (all .len-F)
 
-      pub formed-book : (w ≡ 1281 → ⊥) → Sound D n F T k K X N count t → Unopposed (at K) (at X) (at N) count → BookFits C D n F T k K X N count t w R S E P A
+      pub formed-book : (w ≡ 1281 → ⊥) → Sound D n F T k K X count t → Unopposed (at K) (at X) count → BookFits C D n F T k K X count t w S E P A
       formed-book g Z U =
           let h : w < 1281 = omega (arith, all .bound) in
           record {
             bound = all .bound;
             bad = λ e. absurd (g e);
-            formed = λ _. tests-formed C D n F T k K X N count t M Q (record { sound = Z; room = all .fits h N; exchange = U });
-            windows = λ _. all .windows h N (yardIn C D n F T k) (yard-of C D F T n k M);
+            formed = λ _. tests-formed C D n F T k K X count t M (record { sound = Z; room = all .fits h; exchange = U });
+            windows = λ _. all .windows h (yardIn C D n F T k) (yard-of C D F T n k M);
             by-place = all .by-place;
-            rows-by-place = all .rows-by-place;
             ends-in-day = all .ends-in-day;
-            len-R = all .len-R;
             len-S = all .len-S;
             len-E = all .len-E;
             len-P = all .len-P;

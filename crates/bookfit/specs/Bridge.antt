@@ -12,7 +12,7 @@ use Rattle.laws.specs.Lists.{at, mem-index, index-mem}
 use Rattle.rules.specs.declared.Row.{Row}
 use Rattle.rules.specs.Map.{Yard}
 use Rattle.rules.specs.Rows.{noRow, crosses}
-use Rattle.flat.specs.Flat.{placeOf, ticketOf, rowOf, rowsIn, Packed, KeysRise}
+use Rattle.flat.specs.Flat.{placeOf, ticketOf, exitOf, nextOf, rowOf, rowsIn, KeysRise}
 use Rattle.flat.specs.Laws.{rows-long, row-in}
 use Rattle.flat.specs.Crossings.{array-crosses, array-clear}
 use Rattle.chains.specs.Test.{Last, Successor, RowOk, Tested}
@@ -25,75 +25,75 @@ use Rattle.bookfit.specs.Keys.{same-key, key-next, next-parts, same-next
 meet : (i j : ℕ) → (i < j → ⊥) → (j < i → ⊥) → i ≡ j
 meet i j f g = ⊎-elim (λ (h : i < j). absurd (f h)) (λ (h : j ≤ i). ⊎-elim (λ (k : j < i). absurd (g k)) (λ (k : i ≤ j). omega arith) (lt-or-ge j i)) (lt-or-ge i j)
 
-module _ (K X N : List ℕ) (count : ℕ) where
+module _ (K X : List ℕ) (count : ℕ) where
   abbrev pub row : ℕ → Row
-  row i = rowOf (at K i) (at X i) (at N i)
+  row i = rowOf (at K i) (at X i)
 
   -- a row of the book stands at an index
   pub record Index (r : Row) : Type 0 where
     pub i : ℕ
     pub h : i < count
-    pub is : rowOf (at K i) (at X i) (at N i) ≡ r
+    pub is : rowOf (at K i) (at X i) ≡ r
 
-  pub index : (r : Row) → List·Memᴰ r (rowsIn K X N count) → Index r
+  pub index : (r : Row) → List·Memᴰ r (rowsIn K X count) → Index r
   index r m =
       let t = mem-index noRow m in
-      let h : t .0 < count = omega (arith, t .1, rows-long K X N count) in
-      record { i = t .0; h = h; is = sym (row-in K X N count (t .0) h) ∙ t .2 }
+      let h : t .0 < count = omega (arith, t .1, rows-long K X count) in
+      record { i = t .0; h = h; is = sym (row-in K X count (t .0) h) ∙ t .2 }
 
-  pub member : (i : ℕ) → i < count → List·Memᴰ (rowOf (at K i) (at X i) (at N i)) (rowsIn K X N count)
-  member i h = subst (λ (r : Row). List·Memᴰ r (rowsIn K X N count)) (row-in K X N count i h) (index-mem noRow (rowsIn K X N count) i (omega (arith, rows-long K X N count)))
+  pub member : (i : ℕ) → i < count → List·Memᴰ (rowOf (at K i) (at X i)) (rowsIn K X count)
+  member i h = subst (λ (r : Row). List·Memᴰ r (rowsIn K X count)) (row-in K X count i h) (index-mem noRow (rowsIn K X count) i (omega (arith, rows-long K X count)))
 
   -- ---- the exchange rule
 
-  pub unopposed-exchange : Unopposed (at K) (at X) (at N) count
-      → (r : Row) → List·Memᴰ r (rowsIn K X N count) → (r .next ≡ r .place → ⊥) → crosses (rowsIn K X N count) (r .next) (r .place) (r .exit) ≡ false
-  unopposed-exchange U r m g = let u = index r m in subst (λ (x : Row). crosses (rowsIn K X N count) (x .next) (x .place) (x .exit) ≡ false) (u .is) (clear u)
+  pub unopposed-exchange : Unopposed (at K) (at X) count
+      → (r : Row) → List·Memᴰ r (rowsIn K X count) → (r .next ≡ r .place → ⊥) → crosses (rowsIn K X count) (r .next) (r .place) (r .exit) ≡ false
+  unopposed-exchange U r m g = let u = index r m in subst (λ (x : Row). crosses (rowsIn K X count) (x .next) (x .place) (x .exit) ≡ false) (u .is) (clear u)
     where
-      clear : (u : Index r) → crosses (rowsIn K X N count) (at N (u .i)) (placeOf (at K (u .i))) (at X (u .i)) ≡ false
+      clear : (u : Index r) → crosses (rowsIn K X count) (nextOf (at X (u .i))) (placeOf (at K (u .i))) (exitOf (at X (u .i))) ≡ false
       clear u =
-          array-clear K X N count (at N (u .i)) (placeOf (at K (u .i))) (at X (u .i)) (λ j h a b c.
+          array-clear K X count (nextOf (at X (u .i))) (placeOf (at K (u .i))) (exitOf (at X (u .i))) (λ j h a b c.
           U .each (u .i) (u .h) (record { goes-on = λ e. g (subst Last (u .is) e); by = j; within = h; against = record { place = a; next = b; exit = c } }))
 
-  pub exchange-unopposed : ((r : Row) → List·Memᴰ r (rowsIn K X N count) → (r .next ≡ r .place → ⊥) → crosses (rowsIn K X N count) (r .next) (r .place) (r .exit) ≡ false)
-      → Unopposed (at K) (at X) (at N) count
+  pub exchange-unopposed : ((r : Row) → List·Memᴰ r (rowsIn K X count) → (r .next ≡ r .place → ⊥) → crosses (rowsIn K X count) (r .next) (r .place) (r .exit) ≡ false)
+      → Unopposed (at K) (at X) count
   exchange-unopposed f = record {
     each = λ i h o.
         let a = o .against in
-        not-both (array-crosses K X N count (at N i) (placeOf (at K i)) (at X i) (o .by) (o .within) (a .place) (a .next) (a .exit))
-        (f (rowOf (at K i) (at X i) (at N i)) (member i h) (o .goes-on));
+        not-both (array-crosses K X count (nextOf (at X i)) (placeOf (at K i)) (exitOf (at X i)) (o .by) (o .within) (a .place) (a .next) (a .exit))
+        (f (rowOf (at K i) (at X i)) (member i h) (o .goes-on));
   }
 
   -- ---- chains
 
-  module _ (P : Packed K X) (Y : Yard) where
+  module _ (Y : Yard) where
     abbrev Fits : Type 0
-    Fits = RowsFit (Y .places) (Y .dur) (Y .link) (at K) (at X) (at N) count
+    Fits = RowsFit (Y .places) (Y .dur) (Y .link) (at K) (at X) count
 
-    module _ (F : Fits) (J : Joined (at K) (at X) (at N) count count) (O : OneLast (at K) (at N) count) where
-      row-ok : (i : ℕ) → i < count → RowOk Y (rowsIn K X N count) (rowOf (at K i) (at X i) (at N i))
+    module _ (F : Fits) (J : Joined (at K) (at X) count count) (O : OneLast (at K) (at X) count) where
+      row-ok : (i : ℕ) → i < count → RowOk Y (rowsIn K X count) (rowOf (at K i) (at X i))
       row-ok i h = let o = F .each i h in record {
         on-map = o .on-map;
         in-day = o .in-day;
         lasts = o .lasts;
         exact = o .exact;
         linked = o .linked;
-        joined = λ ne. let f = J .found i h ne in let q = next-parts (at K i) (at X i) (at N i) (at K (f .at)) (P .exits i) (f .is) in
-            record { row = rowOf (at K (f .at)) (at X (f .at)) (at N (f .at)); in-book = member (f .at) (f .within); follows = record { place = q .0; entry = q .1; ticket = q .2 } };
+        joined = λ ne. let f = J .found i h ne in let q = next-parts (at K i) (at X i) (at K (f .at)) (omega (arith, o .in-day)) (f .is) in
+            record { row = rowOf (at K (f .at)) (at X (f .at)); in-book = member (f .at) (f .within); follows = record { place = q .0; entry = q .1; ticket = q .2 } };
       }
 
-      before-at : (i j : ℕ) → i < count → j < count → (IsLast (at K i) (at N i) → ⊥) → (IsLast (at K j) (at N j) → ⊥)
-          → at N i ≡ at N j → at X i ≡ at X j → ticketOf (at K i) ≡ ticketOf (at K j) → i ≡ j
+      before-at : (i j : ℕ) → i < count → j < count → (IsLast (at K i) (at X i) → ⊥) → (IsLast (at K j) (at X j) → ⊥)
+          → nextOf (at X i) ≡ nextOf (at X j) → exitOf (at X i) ≡ exitOf (at X j) → ticketOf (at K i) ≡ ticketOf (at K j) → i ≡ j
       before-at i j h k a b p q t =
-          meet i j (λ c. J .once i j c k a b (same-next (at K i) (at X i) (at N i) (at K j) (at X j) (at N j) p q t))
-          (λ c. J .once j i c h b a (same-next (at K j) (at X j) (at N j) (at K i) (at X i) (at N i) (sym p) (sym q) (sym t)))
+          meet i j (λ c. J .once i j c k a b (same-next (at K i) (at X i) (at K j) (at X j) p q t))
+          (λ c. J .once j i c h b a (same-next (at K j) (at X j) (at K i) (at X i) (sym p) (sym q) (sym t)))
 
-      last-at : (i j : ℕ) → i < count → j < count → IsLast (at K i) (at N i) → IsLast (at K j) (at N j) → ticketOf (at K i) ≡ ticketOf (at K j) → i ≡ j
+      last-at : (i j : ℕ) → i < count → j < count → IsLast (at K i) (at X i) → IsLast (at K j) (at X j) → ticketOf (at K i) ≡ ticketOf (at K j) → i ≡ j
       last-at i j h k a b t = meet i j (λ c. O .once i j c k a b t) (λ c. O .once j i c h b a (sym t))
 
-      pub index-tested : Tested Y (rowsIn K X N count)
+      pub index-tested : Tested Y (rowsIn K X count)
       index-tested = record {
-        each = λ r m. let u = index r m in subst (RowOk Y (rowsIn K X N count)) (u .is) (row-ok (u .i) (u .h));
+        each = λ r m. let u = index r m in subst (RowOk Y (rowsIn K X count)) (u .is) (row-ok (u .i) (u .h));
         one-before = λ r s m k a b p q t. let u = index r m in let v = index s k in
             sym (u .is) ∙ ap row (before-at (u .i) (v .i) (u .h) (v .h) (λ z. a (subst Last (u .is) z)) (λ z. b (subst Last (v .is) z))
             (ap (λ (x : Row). x .next) (u .is) ∙ p ∙ sym (ap (λ (x : Row). x .next) (v .is)))
@@ -104,27 +104,30 @@ module _ (K X N : List ℕ) (count : ℕ) where
             (ap (λ (x : Row). x .ticket) (u .is) ∙ t ∙ sym (ap (λ (x : Row). x .ticket) (v .is)))) ∙ v .is;
       }
 
-    module _ (R : KeysRise K count) (T : Tested Y (rowsIn K X N count)) where
+    module _ (R : KeysRise K count) (T : Tested Y (rowsIn K X count)) where
       apart : (i j : ℕ) → i < j → j < count → row i ≡ row j → ⊥
       apart i j h k e = omega (arith, R .rise i j h k, same-key (at K i) (at K j) (ap (λ (x : Row). x .place) e) (ap (λ (x : Row). x .entry) e) (ap (λ (x : Row). x .ticket) e))
 
-      found-at : (i : ℕ) → Successor (rowsIn K X N count) (rowOf (at K i) (at X i) (at N i)) → Found (at K) count (nextKey (at K i) (at X i) (at N i))
+      small : (i : ℕ) → i < count → exitOf (at X i) < 16777216
+      small i h = omega (arith, T .each (row i) (member i h) .in-day)
+
+      found-at : (i : ℕ) → Successor (rowsIn K X count) (rowOf (at K i) (at X i)) → Found (at K) count (nextKey (at K i) (at X i))
       found-at i s = let u = index (s .row) (s .in-book) in record {
         at = u .i;
         within = u .h;
-        is = key-next (at K i) (at X i) (at N i) (at K (u .i))
+        is = key-next (at K i) (at X i) (at K (u .i))
             (ap (λ (x : Row). x .place) (u .is) ∙ s .follows .place) (ap (λ (x : Row). x .entry) (u .is) ∙ s .follows .entry) (ap (λ (x : Row). x .ticket) (u .is) ∙ s .follows .ticket);
       }
 
-      pub tested-fits : RowsFit (Y .places) (Y .dur) (Y .link) (at K) (at X) (at N) count
+      pub tested-fits : RowsFit (Y .places) (Y .dur) (Y .link) (at K) (at X) count
       tested-fits = record { each = λ i h. let o = T .each (row i) (member i h) in record { on-map = o .on-map; in-day = o .in-day; lasts = o .lasts; exact = o .exact; linked = o .linked } }
 
-      pub tested-joined : Joined (at K) (at X) (at N) count count
+      pub tested-joined : Joined (at K) (at X) count count
       tested-joined = record {
         found = λ i h g. found-at i (T .each (row i) (member i h) .joined g);
-        once = λ i j h k a b q. let hi : i < count = omega arith in let e = next-same (at K i) (at X i) (at N i) (at K j) (at X j) (at N j) (P .exits i) (P .exits j) q in
+        once = λ i j h k a b q. let hi : i < count = omega arith in let e = next-same (at K i) (at X i) (at K j) (at X j) (small i hi) (small j k) q in
             apart i j h k (T .one-before (row i) (row j) (member i hi) (member j k) a b (e .0) (e .1) (e .2));
       }
 
-      pub tested-one-last : OneLast (at K) (at N) count
+      pub tested-one-last : OneLast (at K) (at X) count
       tested-one-last = record { once = λ i j h k a b t. let hi : i < count = omega arith in apart i j h k (T .one-last (row i) (row j) (member i hi) (member j k) a b t) }

@@ -14,7 +14,7 @@ use Rattle.rules.specs.Map.{Yard, MapRules, linked}
 use Rattle.rules.specs.Rows.{load}
 use Rattle.rules.specs.Book.{Ranges, WellFormed}
 use Rattle.lanes.specs.Yards.{YardRules, yard-rules}
-use Rattle.flat.specs.Flat.{placesIn, linksIn, yardIn, Of, rowsIn, Packed, KeysRise}
+use Rattle.flat.specs.Flat.{placesIn, linksIn, yardIn, Of, rowsIn, KeysRise}
 use Rattle.flat.specs.Laws.{rows-long, row-in, yard-of}
 use Rattle.lookup.specs.Order.{keys-rising, rising-keys}
 use Rattle.chains.specs.Laws.{tested-whole, whole-tested}
@@ -24,21 +24,21 @@ use Rattle.bookfit.specs.Against.{Unopposed}
 use Rattle.bookfit.specs.Bridge.{unopposed-exchange, exchange-unopposed, index-tested, tested-fits, tested-joined, tested-one-last}
 
 -- what is asked of the rows before their place's room is looked at
-pub record Sound (D : List ℕ) (n : ℕ) (F T : List ℕ) (k : ℕ) (K X N : List ℕ) (count t : ℕ) : Type 0 where
+pub record Sound (D : List ℕ) (n : ℕ) (F T : List ℕ) (k : ℕ) (K X : List ℕ) (count t : ℕ) : Type 0 where
   pub few : count ≤ rowLimit
   pub ticket-from : 1 ≤ t
   pub ticket-to : t ≤ ticketLimit
   pub rise : KeysRise K count
   pub tickets : TicketsFit (at K) count t
-  pub fits : RowsFit n (at D) (linked (linksIn F T k)) (at K) (at X) (at N) count
-  pub joined : Joined (at K) (at X) (at N) count count
-  pub one-last : OneLast (at K) (at N) count
+  pub fits : RowsFit n (at D) (linked (linksIn F T k)) (at K) (at X) count
+  pub joined : Joined (at K) (at X) count count
+  pub one-last : OneLast (at K) (at X) count
 
 -- what the tests ask of the arrays
-pub record Tests (C D : List ℕ) (n : ℕ) (F T : List ℕ) (k : ℕ) (K X N : List ℕ) (count t : ℕ) : Type 0 where
-  pub sound : Sound D n F T k K X N count t
-  pub room : (p s : ℕ) → p < n → load (rowsIn K X N count) p s ≤ at C p
-  pub exchange : Unopposed (at K) (at X) (at N) count
+pub record Tests (C D : List ℕ) (n : ℕ) (F T : List ℕ) (k : ℕ) (K X : List ℕ) (count t : ℕ) : Type 0 where
+  pub sound : Sound D n F T k K X count t
+  pub room : (p s : ℕ) → p < n → load (rowsIn K X count) p s ≤ at C p
+  pub exchange : Unopposed (at K) (at X) count
 
 -- ---- rows of the arrays' map, by the yard that they make
 
@@ -81,29 +81,29 @@ ranges-of R f a b = record {
   ticket-to = b;
 }
 
-module _ (C D : List ℕ) (n : ℕ) (F T : List ℕ) (k : ℕ) (K X N : List ℕ) (count t : ℕ) (M : MapRules (placesIn C D n) (linksIn F T k)) (P : Packed K X) where
-  pub tests-formed : Tests C D n F T k K X N count t → WellFormed (yardIn C D n F T k) (rowsIn K X N count) t
+module _ (C D : List ℕ) (n : ℕ) (F T : List ℕ) (k : ℕ) (K X : List ℕ) (count t : ℕ) (M : MapRules (placesIn C D n) (linksIn F T k)) where
+  pub tests-formed : Tests C D n F T k K X count t → WellFormed (yardIn C D n F T k) (rowsIn K X count) t
   tests-formed S =
       let R = yard-rules M in
       let O = yard-of C D F T n k M in
-      let c = rows-long K X N count in
-      let A : RowsFit (yardIn C D n F T k .places) (yardIn C D n F T k .dur) (yardIn C D n F T k .link) (at K) (at X) (at N) count = record { each = λ i h. fits-yard O (S .sound .fits .each i h) } in
+      let c = rows-long K X count in
+      let A : RowsFit (yardIn C D n F T k .places) (yardIn C D n F T k .dur) (yardIn C D n F T k .link) (at K) (at X) count = record { each = λ i h. fits-yard O (S .sound .fits .each i h) } in
       record {
         few = omega (arith, S .sound .few);
-        rising = keys-rising K X N count (S .sound .rise);
+        rising = keys-rising K X count (S .sound .rise);
         ticket-from = S .sound .ticket-from;
         ticket-to = S .sound .ticket-to;
-        ranges = λ i h. let hi : i < count = omega arith in rw (row-in K X N count i hi) (ranges-of R (A .each i hi) (S .sound .tickets .each i hi .from) (S .sound .tickets .each i hi .to));
-        whole = tested-whole R (index-tested K X N count P (yardIn C D n F T k) A (S .sound .joined) (S .sound .one-last));
+        ranges = λ i h. let hi : i < count = omega arith in rw (row-in K X count i hi) (ranges-of R (A .each i hi) (S .sound .tickets .each i hi .from) (S .sound .tickets .each i hi .to));
+        whole = tested-whole R (index-tested K X count (yardIn C D n F T k) A (S .sound .joined) (S .sound .one-last));
         room = λ p s h. let hp : p < n = omega (arith, O .places) in omega (arith, S .room p s hp, O .caps p hp);
-        exchange = unopposed-exchange K X N count (S .exchange);
+        exchange = unopposed-exchange K X count (S .exchange);
       }
 
-  pub formed-tests : WellFormed (yardIn C D n F T k) (rowsIn K X N count) t → Tests C D n F T k K X N count t
+  pub formed-tests : WellFormed (yardIn C D n F T k) (rowsIn K X count) t → Tests C D n F T k K X count t
   formed-tests W =
       let O = yard-of C D F T n k M in
-      let c = rows-long K X N count in
-      let R = rising-keys K X N count (W .rising) in
+      let c = rows-long K X count in
+      let R = rising-keys K X count (W .rising) in
       let tested = whole-tested (yard-rules M) (W .whole) in
       record {
         sound = record {
@@ -111,11 +111,11 @@ module _ (C D : List ℕ) (n : ℕ) (F T : List ℕ) (k : ℕ) (K X N : List ℕ
           ticket-from = W .ticket-from;
           ticket-to = W .ticket-to;
           rise = R;
-          tickets = record { each = λ i h. let r = rw (row-in K X N count i h) at (W .ranges i (omega arith)) in record { from = r .ticket-from; to = r .ticket-to } };
-          fits = record { each = λ i h. yard-fits O (tested-fits K X N count P (yardIn C D n F T k) R tested .each i h) };
-          joined = tested-joined K X N count P (yardIn C D n F T k) R tested;
-          one-last = tested-one-last K X N count P (yardIn C D n F T k) R tested;
+          tickets = record { each = λ i h. let r = rw (row-in K X count i h) at (W .ranges i (omega arith)) in record { from = r .ticket-from; to = r .ticket-to } };
+          fits = record { each = λ i h. yard-fits O (tested-fits K X count (yardIn C D n F T k) R tested .each i h) };
+          joined = tested-joined K X count (yardIn C D n F T k) R tested;
+          one-last = tested-one-last K X count (yardIn C D n F T k) R tested;
         };
         room = λ p s h. omega (arith, W .room p s (omega (arith, O .places)), O .caps p h);
-        exchange = exchange-unopposed K X N count (W .exchange);
+        exchange = exchange-unopposed K X count (W .exchange);
       }

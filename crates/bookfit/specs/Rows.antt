@@ -53,5 +53,5 @@ pub record RowFits (n : ℕ) (dur : ℕ → ℕ) (link : ℕ → ℕ → Bool) (
   pub exact : Last r → r .exit ≡ r .entry + dur (r .place)
   pub linked : (Last r → ⊥) → link (r .place) (r .next) ≡ true
 
-abbrev pub RowsFit : ℕ → (ℕ → ℕ) → (ℕ → ℕ → Bool) → (ℕ → ℕ) → (ℕ → ℕ) → (ℕ → ℕ) → ℕ → Type 0
-RowsFit n dur link K X N count = Each (λ i. RowFits n dur link (rowOf (K i) (X i) (N i))) count
+abbrev pub RowsFit : ℕ → (ℕ → ℕ) → (ℕ → ℕ → Bool) → (ℕ → ℕ) → (ℕ → ℕ) → ℕ → Type 0
+RowsFit n dur link K X count = Each (λ i. RowFits n dur link (rowOf (K i) (X i))) count

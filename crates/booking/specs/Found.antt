@@ -36,7 +36,7 @@ module _ {Y : Yard} (rules : YardRules Y) {rows : List Row} {t : ℕ} (W : WellF
     apart = run-apart t rules plan P;
   }
 
-module _ {b : Book} {C D F T H L : List ℕ} {n k : ℕ} {K X N P S E I : List ℕ} {m : ℕ} (Q : Ready b C D F T H L n k K X N P S E I m) where
+module _ {b : Book} {C D F T H L : List ℕ} {n k : ℕ} {K X P S E I : List ℕ} {m : ℕ} (Q : Ready b C D F T H L n k K X P S E I m) where
   abbrev Y : Yard
   Y = yardIn C D n F T k
 
@@ -44,10 +44,10 @@ module _ {b : Book} {C D F T H L : List ℕ} {n k : ℕ} {K X N P S E I : List �
   rules = yard-rules (Q .lanes .rules)
 
   -- what the search asks of the rows in the arrays
-  pub room-there : (p t : ℕ) → p < Y .places → load (rowsIn K X N (b .count)) p t ≤ Y .cap p
+  pub room-there : (p t : ℕ) → p < Y .places → load (rowsIn K X (b .count)) p t ≤ Y .cap p
   room-there p t h = subst (λ (rows : List Row). load rows p t ≤ Y .cap p) (sym (Q .rows)) (Q .formed .room p t h)
 
-  module _ {start dest s : ℕ} {lab path : List ℕ} {r : ℕ} (R : Routed Y (rowsIn K X N (b .count)) start dest s m D P S E lab path r) where
+  module _ {start dest s : ℕ} {lab path : List ℕ} {r : ℕ} (R : Routed Y (rowsIn K X (b .count)) start dest s m D P S E lab path r) where
     abbrev plan : List Stay
     plan = planOf D P lab (take r path)
 

@@ -16,28 +16,28 @@ use Rattle.flatten.specs.Read.{BookRead, read-true, read-good, good-read}
 use Rattle.keeping.specs.Books.{book-of-rows}
 
 -- the arrays are those of a sound map and of the good book b, and all its free windows are known
-pub record Ready (b : Book) (C D F T H L : List ℕ) (n k : ℕ) (K X N P S E I : List ℕ) (m : ℕ) : Type 0 where
-  pub lanes : Lanes C D F T H L n k (rowsIn K X N (b .count)) (b .count) P S E I m
+pub record Ready (b : Book) (C D F T H L : List ℕ) (n k : ℕ) (K X P S E I : List ℕ) (m : ℕ) : Type 0 where
+  pub lanes : Lanes C D F T H L n k (rowsIn K X (b .count)) (b .count) P S E I m
   pub formed : WellFormed (yardIn C D n F T k) (rowsOf b) (b .«next_ticket»)
-  pub rows : rowsIn K X N (b .count) ≡ rowsOf b
+  pub rows : rowsIn K X (b .count) ≡ rowsOf b
   pub whole : b ≡ bookOf (rowsOf b) (b .«next_ticket»)
 
 -- 1,282 for the map, 1,281 for the book, else the number of windows
-pub record Surveyed (m : Map) (b : Book) (C D F T H L K X N P S E I : List ℕ) (r : ℕ) : Type 0 where
+pub record Surveyed (m : Map) (b : Book) (C D F T H L K X P S E I : List ℕ) (r : ℕ) : Type 0 where
   pub bound : r ≤ 1282
   pub no-map : r ≡ 1282 → GoodMap m → ⊥
   pub map : r < 1282 → GoodMap m
   pub no-book : r ≡ 1281 → GoodBook (mapYard m) b → ⊥
   pub book : r < 1281 → GoodBook (mapYard m) b
   pub yard : r < 1281 → yardIn C D (m .«place_count») F T (m .«link_count») ≡ mapYard m
-  pub ready : r < 1281 → Ready b C D F T H L (m .«place_count») (m .«link_count») K X N P S E I r
+  pub ready : r < 1281 → Ready b C D F T H L (m .«place_count») (m .«link_count») K X P S E I r
 
-module _ {b : Book} {K X N : List ℕ} {count : ℕ} (B : BookRead b K X N count) where
+module _ {b : Book} {K X : List ℕ} {count : ℕ} (B : BookRead b K X count) where
   module _
       {m : Map} {C D F T H L : List ℕ} {P S E I : List ℕ} {r : ℕ}
       (places : PlacesFlat m C D) (links : LinksFlat m F T)
       (lp : length (m .places) ≡ 256) (ll : length (m .links) ≡ 1024) (lb : length (b .rows) ≡ 1024)
-      (Q : Vetted C D F T H L (m .«place_count») (m .«link_count») K X N count (b .«next_ticket») P S E I r)
+      (Q : Vetted C D F T H L (m .«place_count») (m .«link_count») K X count (b .«next_ticket») P S E I r)
     where
       abbrev Y : Yard
       Y = yardIn C D (m .«place_count») F T (m .«link_count»)
@@ -54,7 +54,7 @@ module _ {b : Book} {K X N : List ℕ} {count : ℕ} (B : BookRead b K X N count
       as-read : r < 1281 → count ≡ b .count
       as-read h = B .whole (read-true B Y (Q .formed h))
 
-      pub surveyed : Surveyed m b C D F T H L K X N P S E I r
+      pub surveyed : Surveyed m b C D F T H L K X P S E I r
       surveyed = record {
         bound = Q .bound;
         no-map = λ e G. Q .no-map e (good-flat places links lp ll G);
@@ -63,7 +63,7 @@ module _ {b : Book} {K X N : List ℕ} {count : ℕ} (B : BookRead b K X N count
         book = λ h. subst (λ (y : Yard). GoodBook y b) (same-yard (omega arith)) (good-here h);
         yard = λ h. same-yard (omega arith);
         ready = λ h. record {
-          lanes = subst (λ (n : ℕ). Lanes C D F T H L (m .«place_count») (m .«link_count») (rowsIn K X N n) n P S E I r) (as-read h) (Q .lanes h);
+          lanes = subst (λ (n : ℕ). Lanes C D F T H L (m .«place_count») (m .«link_count») (rowsIn K X n) n P S E I r) (as-read h) (Q .lanes h);
           formed = good-here h .formed;
           rows = B .flat .rows (read-true B Y (Q .formed h));
           whole = book-of-rows b (good-here h) lb;

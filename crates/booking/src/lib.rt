@@ -35,8 +35,7 @@ fn survey(
     head: &mut [u16; 256],
     chain: &mut [u16; 1024],
     key: &mut [u64; 1024],
-    exit: &mut [u32; 1024],
-    next: &mut [u8; 1024],
+    tail: &mut [u32; 1024],
     place: &mut [u8; 1280],
     start: &mut [u32; 1280],
     end: &mut [u32; 1280],
@@ -44,14 +43,14 @@ fn survey(
 ) -> usize
     requires { ⌜ (length (now cap) ≡ 256) × (length (now dur) ≡ 256) × (length (now from) ≡ 1024) × (length (now to) ≡ 1024) ⌝ }
     requires { ⌜ (length (now head) ≡ 256) × (length (now chain) ≡ 1024) × ((p : ℕ) → at (now head) p ≡ 0) ⌝ }
-    requires { ⌜ (length (now key) ≡ 1024) × (length (now exit) ≡ 1024) × (length (now next) ≡ 1024) ⌝ }
-    requires { ⌜ ((i : ℕ) → at (now key) i ≡ 0) × ((i : ℕ) → at (now exit) i ≡ 0) × ((i : ℕ) → at (now next) i ≡ 0) ⌝ }
+    requires { ⌜ (length (now key) ≡ 1024) × (length (now tail) ≡ 1024) ⌝ }
+    requires { ⌜ ((i : ℕ) → at (now key) i ≡ 0) ⌝ }
     requires { ⌜ (length (now place) ≡ 1280) × (length (now start) ≡ 1280) × (length (now end) ≡ 1280) × (length (now first) ≡ 257) ⌝ }
-    ensures { λ r. ⌜ Surveyed m b (now (cap .exit)) (now (dur .exit)) (now (from .exit)) (now (to .exit)) (now (head .exit)) (now (chain .exit)) (now (key .exit)) (now (exit .exit)) (now (next .exit)) (now (place .exit)) (now (start .exit)) (now (end .exit)) (now (first .exit)) r ⌝ }
+    ensures { λ r. ⌜ Surveyed m b (now (cap .exit)) (now (dur .exit)) (now (from .exit)) (now (to .exit)) (now (head .exit)) (now (chain .exit)) (now (key .exit)) (now (tail .exit)) (now (place .exit)) (now (start .exit)) (now (end .exit)) (now (first .exit)) r ⌝ }
 {
     flatten::flat_places(m, cap, dur);
     flatten::flat_links(m, from, to);
-    let count = flatten::read_book(b, key, exit, next);
+    let count = flatten::read_book(b, key, tail);
     vet::vet(
         m.place_count,
         m.link_count,
@@ -64,8 +63,7 @@ fn survey(
         count,
         b.next_ticket,
         key,
-        exit,
-        next,
+        tail,
         start,
         end,
         place,
@@ -130,14 +128,13 @@ fn book_sound(
     end: &[u32; 1280],
     first: &[u16; 257],
     key: &[u64; 1024],
-    exit: &[u32; 1024],
-    next: &[u8; 1024],
+    tail: &[u32; 1024],
     b: Book,
     origin: u32,
     dest: u32,
     s: u32,
 ) -> Booking
-    requires { ⌜ Ready b (now cap) (now dur) (now from) (now to) (now head) (now chain) n k (now key) (now exit) (now next) (now place) (now start) (now end) (now first) windows ⌝ }
+    requires { ⌜ Ready b (now cap) (now dur) (now from) (now to) (now head) (now chain) n k (now key) (now tail) (now place) (now start) (now end) (now first) windows ⌝ }
     ensures { λ r. ⌜ BookSound (yardIn (now (cap .entry)) (now (dur .entry)) n (now (from .entry)) (now (to .entry)) k) (rowsOf b) b origin dest s r ⌝ }
 {
     let a = origin as usize;
@@ -185,8 +182,7 @@ fn book_sound(
         end,
         first,
         key,
-        exit,
-        next,
+        tail,
         rows,
         a,
         z,
@@ -230,8 +226,7 @@ pub fn book(m: Map, b: Book, start: u32, destination: u32, second: u32) -> Booki
     let mut head = [0u16; 256];
     let mut chain = [0u16; 1024];
     let mut key = [0u64; 1024];
-    let mut exit = [0u32; 1024];
-    let mut next = [0u8; 1024];
+    let mut tail = [0u32; 1024];
     let mut place = [0u8; 1280];
     let mut begin = [0u32; 1280];
     let mut end = [0u32; 1280];
@@ -246,8 +241,7 @@ pub fn book(m: Map, b: Book, start: u32, destination: u32, second: u32) -> Booki
         &mut head,
         &mut chain,
         &mut key,
-        &mut exit,
-        &mut next,
+        &mut tail,
         &mut place,
         &mut begin,
         &mut end,
@@ -280,8 +274,7 @@ pub fn book(m: Map, b: Book, start: u32, destination: u32, second: u32) -> Booki
         &end,
         &first,
         &key,
-        &exit,
-        &next,
+        &tail,
         b,
         start,
         destination,
@@ -300,8 +293,7 @@ pub fn cancel(m: Map, b: Book, ticket: u32) -> Cancelling
     let mut head = [0u16; 256];
     let mut chain = [0u16; 1024];
     let mut key = [0u64; 1024];
-    let mut exit = [0u32; 1024];
-    let mut next = [0u8; 1024];
+    let mut tail = [0u32; 1024];
     let mut place = [0u8; 1280];
     let mut start = [0u32; 1280];
     let mut end = [0u32; 1280];
@@ -316,8 +308,7 @@ pub fn cancel(m: Map, b: Book, ticket: u32) -> Cancelling
         &mut head,
         &mut chain,
         &mut key,
-        &mut exit,
-        &mut next,
+        &mut tail,
         &mut place,
         &mut start,
         &mut end,

@@ -16,8 +16,8 @@ use Rattle.flatten.specs.Maps.{PlacesFlat, LinksFlat, good-flat, flat-good, yar
 use Rattle.flatten.specs.Read.{BookRead, read-true, read-good, good-read, read-rows}
 use Rattle.desk.specs.Transfer.{plan-carry, page-carry}
 
-module _ {m : Map} {b : Book} {C D F T K X N : List ℕ} {count : ℕ} (P : PlacesFlat m C D) (L : LinksFlat m F T) (places : length (m .places) ≡ 256) (links : length (m .links) ≡ 1024)
-    (B : BookRead b K X N count) where
+module _ {m : Map} {b : Book} {C D F T K X : List ℕ} {count : ℕ} (P : PlacesFlat m C D) (L : LinksFlat m F T) (places : length (m .places) ≡ 256) (links : length (m .links) ≡ 1024)
+    (B : BookRead b K X count) where
   abbrev yard : Yard
   yard = yardIn C D (m .«place_count») F T (m .«link_count»)
 
@@ -25,7 +25,7 @@ module _ {m : Map} {b : Book} {C D F T K X N : List ℕ} {count : ℕ} (P : Plac
   map-ok = MapRules (placesIn C D (m .«place_count»)) (linksIn F T (m .«link_count»))
 
   abbrev book-ok : Type 0
-  book-ok = WellFormed yard (rowsIn K X N count) (b .«next_ticket»)
+  book-ok = WellFormed yard (rowsIn K X count) (b .«next_ticket»)
 
   pub given-map : map-ok → GoodMap m
   given-map = flat-good P L places links
@@ -42,11 +42,11 @@ module _ {m : Map} {b : Book} {C D F T K X N : List ℕ} {count : ℕ} (P : Plac
   pub book-given : map-ok → GoodBook (mapYard m) b → book-ok
   book-given M G = good-read B yard (subst (λ (z : Yard). GoodBook z b) (sym (given-yard M)) G)
 
-  pub given-rows : map-ok → book-ok → rowsIn K X N count ≡ rowsOf b
+  pub given-rows : map-ok → book-ok → rowsIn K X count ≡ rowsOf b
   given-rows M W = read-rows B (read-true B yard W)
 
-  pub plan-given : {start dest s : ℕ} {was out : List ℕ} {r : Planned} → PlanSays map-ok book-ok yard (rowsIn K X N count) start dest s was out r → PlanIs m b start dest s was out r
+  pub plan-given : {start dest s : ℕ} {was out : List ℕ} {r : Planned} → PlanSays map-ok book-ok yard (rowsIn K X count) start dest s was out r → PlanIs m b start dest s was out r
   plan-given x = plan-carry given-map map-given given-book book-given (λ M W. (given-yard M, given-rows M W)) x
 
-  pub page-given : {size : ℕ} {k : Key} {was out : List ℕ} {r : Paged} → PageSays map-ok book-ok yard (rowsIn K X N count) size k was out r → PageIs m b size k was out r
+  pub page-given : {size : ℕ} {k : Key} {was out : List ℕ} {r : Paged} → PageSays map-ok book-ok yard (rowsIn K X count) size k was out r → PageIs m b size k was out r
   page-given x = page-carry given-map map-given given-book book-given (λ M W. (given-yard M, given-rows M W)) x

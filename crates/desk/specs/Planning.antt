@@ -23,7 +23,7 @@ use Rattle.planner.specs.Choice.{planOf}
 use Rattle.planner.specs.Route.{Routed, PathFits, plan-long, last-arrives, row-last}
 
 -- a route's path is fit to be written
-pub route-fits : {Y : Yard} {rows : List Row} {start dest s n k c m : ℕ} {D F T H N P S E I lab path : List ℕ} {r : ℕ} → Ground n k c m D F T H N P S E I
+pub route-fits : {Y : Yard} {rows : List Row} {start dest s n k m : ℕ} {D F T H N P S E I lab path : List ℕ} {r : ℕ} → Ground n k m D F T H N P S E I
     → Routed Y rows start dest s m D P S E lab path r → PathFits D P lab path r
 route-fits {D = D} {P = P} {lab = lab} {path = path} {r = r} G R =
     let l : length (take r path) ≡ r = length-take-le r path (omega (arith, R .few, R .long)) in

@@ -27,17 +27,16 @@ fn plan_sound(
     end: &[u32; 1280],
     first: &[u16; 257],
     key: &[u64; 1024],
-    exit: &[u32; 1024],
-    next: &[u8; 1024],
+    tail: &[u32; 1024],
     count: usize,
     origin: u32,
     dest: u32,
     s: u32,
     out: &mut [u8],
 ) -> Planned
-    requires { ⌜ Lanes (now cap) (now dur) (now from) (now to) (now head) (now chain) n k (rowsIn (now key) (now exit) (now next) count) count (now place) (now start) (now end) (now first) windows ⌝ }
-    requires { ⌜ ((p t : ℕ) → p < yardIn (now cap) (now dur) n (now from) (now to) k .places → load (rowsIn (now key) (now exit) (now next) count) p t ≤ yardIn (now cap) (now dur) n (now from) (now to) k .cap p) ⌝ }
-    ensures { λ r. ⌜ PlanSound (yardIn (now (cap .entry)) (now (dur .entry)) n (now (from .entry)) (now (to .entry)) k) (rowsIn (now (key .entry)) (now (exit .entry)) (now (next .entry)) count) origin dest s (now (out .entry)) (now (out .exit)) r ⌝ }
+    requires { ⌜ Lanes (now cap) (now dur) (now from) (now to) (now head) (now chain) n k (rowsIn (now key) (now tail) count) count (now place) (now start) (now end) (now first) windows ⌝ }
+    requires { ⌜ ((p t : ℕ) → p < yardIn (now cap) (now dur) n (now from) (now to) k .places → load (rowsIn (now key) (now tail) count) p t ≤ yardIn (now cap) (now dur) n (now from) (now to) k .cap p) ⌝ }
+    ensures { λ r. ⌜ PlanSound (yardIn (now (cap .entry)) (now (dur .entry)) n (now (from .entry)) (now (to .entry)) k) (rowsIn (now (key .entry)) (now (tail .entry)) count) origin dest s (now (out .entry)) (now (out .exit)) r ⌝ }
 {
     let a = origin as usize;
     let z = dest as usize;
@@ -67,8 +66,7 @@ fn plan_sound(
         end,
         first,
         key,
-        exit,
-        next,
+        tail,
         count,
         a,
         z,
@@ -101,15 +99,14 @@ pub fn plan_flat(
     count: usize,
     next_ticket: u32,
     key: &[u64; 1024],
-    exit: &[u32; 1024],
-    next: &[u8; 1024],
+    tail: &[u32; 1024],
     origin: u32,
     dest: u32,
     s: u32,
     out: &mut [u8],
 ) -> Planned
-    requires { ⌜ Packed (now key) (now exit) ⌝ }
-    ensures { λ r. ⌜ PlanSays (MapRules (placesIn (now (cap .entry)) (now (dur .entry)) n) (linksIn (now (from .entry)) (now (to .entry)) k)) (WellFormed (yardIn (now (cap .entry)) (now (dur .entry)) n (now (from .entry)) (now (to .entry)) k) (rowsIn (now (key .entry)) (now (exit .entry)) (now (next .entry)) count) «next_ticket») (yardIn (now (cap .entry)) (now (dur .entry)) n (now (from .entry)) (now (to .entry)) k) (rowsIn (now (key .entry)) (now (exit .entry)) (now (next .entry)) count) origin dest s (now (out .entry)) (now (out .exit)) r ⌝ }
+    requires { ⌜ Packed (now key) ⌝ }
+    ensures { λ r. ⌜ PlanSays (MapRules (placesIn (now (cap .entry)) (now (dur .entry)) n) (linksIn (now (from .entry)) (now (to .entry)) k)) (WellFormed (yardIn (now (cap .entry)) (now (dur .entry)) n (now (from .entry)) (now (to .entry)) k) (rowsIn (now (key .entry)) (now (tail .entry)) count) «next_ticket») (yardIn (now (cap .entry)) (now (dur .entry)) n (now (from .entry)) (now (to .entry)) k) (rowsIn (now (key .entry)) (now (tail .entry)) count) origin dest s (now (out .entry)) (now (out .exit)) r ⌝ }
 {
     let mut head = [0u16; 256];
     let mut chain = [0u16; 1024];
@@ -129,8 +126,7 @@ pub fn plan_flat(
         count,
         next_ticket,
         key,
-        exit,
-        next,
+        tail,
         &mut start,
         &mut end,
         &mut place,
@@ -157,8 +153,7 @@ pub fn plan_flat(
         &end,
         &first,
         key,
-        exit,
-        next,
+        tail,
         count,
         origin,
         dest,

@@ -12,7 +12,7 @@ use Rattle.laws.specs.Tests.{true-or-false, and-in, and-l, and-r, or-out, or-l,
 use Rattle.laws.specs.Lists.{at}
 use Rattle.rules.specs.declared.Row.{Row}
 use Rattle.rules.specs.Rows.{rowAt, crosses}
-use Rattle.flat.specs.Flat.{rowsIn, placeOf}
+use Rattle.flat.specs.Flat.{rowsIn, placeOf, exitOf, nextOf}
 use Rattle.flat.specs.Laws.{rows-long, row-in}
 
 -- row number `at` goes from p to q at t
@@ -51,16 +51,16 @@ pub none-crosses : (rows : List Row) (p q t : ℕ) → (CrossingAt rows p q t �
 none-crosses rows p q t f = ⊎-elim (λ h. absurd (f (crosses-at rows p q t h))) (λ h. h) (true-or-false (crosses rows p q t))
 
 -- the same over arrays
-module _ (K X N : List ℕ) (count p q t : ℕ) where
-  pub array-crosses : (i : ℕ) → i < count → placeOf (at K i) ≡ p → at N i ≡ q → at X i ≡ t → crosses (rowsIn K X N count) p q t ≡ true
+module _ (K X : List ℕ) (count p q t : ℕ) where
+  pub array-crosses : (i : ℕ) → i < count → placeOf (at K i) ≡ p → nextOf (at X i) ≡ q → exitOf (at X i) ≡ t → crosses (rowsIn K X count) p q t ≡ true
   array-crosses i h a b c =
-      let e = row-in K X N count i h in
-      at-crosses (rowsIn K X N count) p q t i (rw (rows-long K X N count) h)
+      let e = row-in K X count i h in
+      at-crosses (rowsIn K X count) p q t i (rw (rows-long K X count) h)
       (ap (λ (r : Row). r .place) e ∙ a) (ap (λ (r : Row). r .next) e ∙ b) (ap (λ (r : Row). r .exit) e ∙ c)
 
-  pub array-clear : ((i : ℕ) → i < count → placeOf (at K i) ≡ p → at N i ≡ q → at X i ≡ t → ⊥) → crosses (rowsIn K X N count) p q t ≡ false
+  pub array-clear : ((i : ℕ) → i < count → placeOf (at K i) ≡ p → nextOf (at X i) ≡ q → exitOf (at X i) ≡ t → ⊥) → crosses (rowsIn K X count) p q t ≡ false
   array-clear f =
-      none-crosses (rowsIn K X N count) p q t (λ x.
-      let h : x .at < count = rw (rows-long K X N count) at (x .within) in
-      let e = row-in K X N count (x .at) h in
+      none-crosses (rowsIn K X count) p q t (λ x.
+      let h : x .at < count = rw (rows-long K X count) at (x .within) in
+      let e = row-in K X count (x .at) h in
       f (x .at) h (ap (λ (r : Row). r .place) (sym e) ∙ x .from) (ap (λ (r : Row). r .next) (sym e) ∙ x .to) (ap (λ (r : Row). r .exit) (sym e) ∙ x .when))

@@ -40,7 +40,7 @@ pub record Chained (F : List ℕ) (k : ℕ) (H N : List ℕ) : Type 0 where
   pub head : (p : ℕ) → p < 256 → at H p ≡ lastBefore F p k
   pub link : (j : ℕ) → j < k → at N j ≡ lastBefore F (at F j) j
 
--- ---- the book: a key is place * 2^48 + entry * 2^24 + ticket, so that key order is number order
+-- ---- the book: a row is a key and a tail. A key is place * 2^48 + entry * 2^24 + ticket, so that key order is number order
 
 abbrev pub placeOf : ℕ → ℕ
 placeOf key = key / 281474976710656
@@ -54,16 +54,34 @@ ticketOf key = key % 16777216
 abbrev pub keyOf : ℕ → ℕ → ℕ → ℕ
 keyOf place entry ticket = place * 281474976710656 + entry * 16777216 + ticket
 
-abbrev pub rowOf : ℕ → ℕ → ℕ → Row
-rowOf key exit next = record { place = placeOf key; entry = entryOf key; ticket = ticketOf key; exit = exit; next = next }
+-- entries, tickets and exits have 24 bits, keys 56
+abbrev pub fieldLimit : ℕ
+fieldLimit = 16777216
 
-abbrev pub rowsIn : List ℕ → List ℕ → List ℕ → ℕ → List Row
-rowsIn K X N count = tabulate count (λ i. rowOf (at K i) (at X i) (at N i))
+abbrev pub keyLimit : ℕ
+keyLimit = 72057594037927936
 
--- keys of a place below 256, an entry and a ticket below 2^24; exits below 2^24
-pub record Packed (K X : List ℕ) : Type 0 where
-  pub keys : (i : ℕ) → at K i < 72057594037927936
-  pub exits : (i : ℕ) → at X i < 16777216
+-- a tail is exit * 2^8 + next place
+
+abbrev pub exitOf : ℕ → ℕ
+exitOf tail = tail / 256
+
+abbrev pub nextOf : ℕ → ℕ
+nextOf tail = tail % 256
+
+abbrev pub tailOf : ℕ → ℕ → ℕ
+tailOf exit next = exit * 256 + next
+
+abbrev pub rowOf : ℕ → ℕ → Row
+rowOf key tail = record { place = placeOf key; entry = entryOf key; ticket = ticketOf key; exit = exitOf tail; next = nextOf tail }
+
+-- the rows of keys K and tails X
+abbrev pub rowsIn : List ℕ → List ℕ → ℕ → List Row
+rowsIn K X count = tabulate count (λ i. rowOf (at K i) (at X i))
+
+-- keys of a place below 256, an entry and a ticket below 2^24
+pub record Packed (K : List ℕ) : Type 0 where
+  pub keys : (i : ℕ) → at K i < keyLimit
 
 -- keys strictly rising as numbers
 pub record KeysRise (K : List ℕ) (count : ℕ) : Type 0 where

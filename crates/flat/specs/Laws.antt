@@ -12,7 +12,7 @@ use Rattle.rules.specs.declared.Place.{Place}
 use Rattle.rules.specs.Map.{MapRules, noPlace, placeAt, noLink, linkAt}
 use Rattle.rules.specs.Rows.{noRow, rowAt}
 use Rattle.lanes.specs.Yards.{yard-rules}
-use Rattle.flat.specs.Flat.{placesIn, linksIn, yardIn, Of, lastBefore, rowOf, rowsIn, placeOf, entryOf, ticketOf, keyOf}
+use Rattle.flat.specs.Flat.{placesIn, linksIn, yardIn, Of, lastBefore, rowOf, rowsIn, placeOf, entryOf, ticketOf, keyOf, exitOf, nextOf, tailOf}
 
 pub places-long : (C D : List ℕ) (n : ℕ) → length (placesIn C D n) ≡ n
 places-long C D n = length-tabulate n (λ p. record { capacity = at C p; duration = at D p })
@@ -26,11 +26,11 @@ links-long F T k = length-tabulate k (λ j. record { from = at F j; to = at T j 
 pub link-in : (F T : List ℕ) (k j : ℕ) → j < k → linkAt (linksIn F T k) j ≡ record { from = at F j; to = at T j }
 link-in F T k j h = getD-tabulate k (λ j. record { from = at F j; to = at T j }) j noLink h
 
-pub rows-long : (K X N : List ℕ) (count : ℕ) → length (rowsIn K X N count) ≡ count
-rows-long K X N count = length-tabulate count (λ i. rowOf (at K i) (at X i) (at N i))
+pub rows-long : (K X : List ℕ) (count : ℕ) → length (rowsIn K X count) ≡ count
+rows-long K X count = length-tabulate count (λ i. rowOf (at K i) (at X i))
 
-pub row-in : (K X N : List ℕ) (count i : ℕ) → i < count → rowAt (rowsIn K X N count) i ≡ rowOf (at K i) (at X i) (at N i)
-row-in K X N count i h = getD-tabulate count (λ i. rowOf (at K i) (at X i) (at N i)) i noRow h
+pub row-in : (K X : List ℕ) (count i : ℕ) → i < count → rowAt (rowsIn K X count) i ≡ rowOf (at K i) (at X i)
+row-in K X count i h = getD-tabulate count (λ i. rowOf (at K i) (at X i)) i noRow h
 
 -- the yard of arrays that keep the rules
 pub yard-of : (C D F T : List ℕ) (n k : ℕ) → MapRules (placesIn C D n) (linksIn F T k) → Of (yardIn C D n F T k) C D n
@@ -58,6 +58,17 @@ module _ (p e t : ℕ) (he : e < 16777216) (ht : t < 16777216) where
 
   pub ticket-of-key : ticketOf (keyOf p e t) ≡ t
   ticket-of-key = omega arith
+
+-- a tail of parts
+module _ (x q : ℕ) (hq : q < 256) where
+  pub exit-of-tail : exitOf (tailOf x q) ≡ x
+  exit-of-tail = omega arith
+
+  pub next-of-tail : nextOf (tailOf x q) ≡ q
+  next-of-tail = omega arith
+
+  pub tail-of-parts : (tail : ℕ) → exitOf tail ≡ x → nextOf tail ≡ q → tail ≡ tailOf x q
+  tail-of-parts tail e f = omega arith
 
 -- links by place
 pub last-here : (F : List ℕ) (p k : ℕ) → at F k ≡ p → lastBefore F p (k + 1) ≡ suc k

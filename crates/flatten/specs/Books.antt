@@ -1,5 +1,5 @@
--- A book's rows as arrays of numbers. A row in range is told by its key, its exit and its next place, so that the list which the arrays stand for is
--- the book's; a row out of range or a used slot past the count is none of a well-formed book.
+-- A book's rows as arrays of numbers. A row in range is told by its key and its tail, so that the list which the arrays stand for is the book's; a row
+-- out of range or a used slot past the count is none of a well-formed book.
 use Prim.Native.Nat.{ℕ, _+_, _≤_, _<_}
 use mathlib.Core.Path.{_≡_, refl, sym, subst, _∙_}
 use mathlib.Core.Bool.{Bool, true, false}
@@ -7,7 +7,7 @@ use mathlib.Core.List.{List}
 use native.Mathlib.Omega.{arith}
 use borrow.Author.Count.{below-more}
 use lib.ListN.{length, set, length-set}
-use lib.Seq.{getD-take, length-take-le}
+use lib.Seq.{getD-set-same, getD-set-other, getD-take, length-take-le}
 use Rattle.laws.specs.Tests.{not-both}
 use Rattle.laws.specs.Lists.{at}
 use Rattle.rules.specs.declared.Row.{Row}
@@ -16,9 +16,9 @@ use Rattle.rules.specs.Limits.{day, ticketLimit}
 use Rattle.rules.specs.Map.{Yard}
 use Rattle.rules.specs.Rows.{noRow, rowAt}
 use Rattle.rules.specs.Book.{Ranges, WellFormed, rowsOf, GoodBook}
-use Rattle.flat.specs.Flat.{keyOf, rowOf, rowsIn, Packed}
-use Rattle.flat.specs.Laws.{place-of-key, entry-of-key, ticket-of-key}
-use Rattle.flatten.specs.Lists.{table-take, set-next, set-all}
+use Rattle.flat.specs.Flat.{keyOf, tailOf, rowOf, rowsIn, Packed}
+use Rattle.flat.specs.Laws.{place-of-key, entry-of-key, ticket-of-key, exit-of-tail, next-of-tail}
+use Rattle.flatten.specs.Lists.{table-take, set-all}
 
 -- what every row of a well-formed book is within, whatever the map
 pub record InRange (r : Row) : Type 0 where
@@ -27,38 +27,36 @@ pub record InRange (r : Row) : Type 0 where
   pub ticket : r .ticket < ticketLimit
 
 -- the rows in the arrays
-pub record RowsFlat (b : Book) (K X N : List ℕ) : Type 0 where
-  pub packed : Packed K X
-  pub rows : rowsIn K X N (b .count) ≡ rowsOf b
+pub record RowsFlat (b : Book) (K X : List ℕ) : Type 0 where
+  pub packed : Packed K
+  pub rows : rowsIn K X (b .count) ≡ rowsOf b
   pub fits : b .count ≤ 1024
   pub len-key : length K ≡ 1024
-  pub len-exit : length X ≡ 1024
-  pub len-next : length N ≡ 1024
+  pub len-tail : length X ≡ 1024
 
 -- the whole book, and what the answer r tells: with the answer true it is well formed exactly when the rows in the arrays are
-pub record BookFlat (b : Book) (K X N : List ℕ) (r : Bool) : Type 0 where
-  pub packed : Packed K X
+pub record BookFlat (b : Book) (K X : List ℕ) (r : Bool) : Type 0 where
+  pub packed : Packed K
   pub fits : r ≡ true → b .count ≤ 1024
-  pub rows : r ≡ true → rowsIn K X N (b .count) ≡ rowsOf b
-  pub good : r ≡ true → (Y : Yard) → WellFormed Y (rowsIn K X N (b .count)) (b .«next_ticket») → GoodBook Y b
-  pub formed : (Y : Yard) → GoodBook Y b → (r ≡ true) × WellFormed Y (rowsIn K X N (b .count)) (b .«next_ticket»)
+  pub rows : r ≡ true → rowsIn K X (b .count) ≡ rowsOf b
+  pub good : r ≡ true → (Y : Yard) → WellFormed Y (rowsIn K X (b .count)) (b .«next_ticket») → GoodBook Y b
+  pub formed : (Y : Yard) → GoodBook Y b → (r ≡ true) × WellFormed Y (rowsIn K X (b .count)) (b .«next_ticket»)
   pub len-key : length K ≡ 1024
-  pub len-exit : length X ≡ 1024
-  pub len-next : length N ≡ 1024
+  pub len-tail : length X ≡ 1024
 
 -- ---- a row
 
--- a row's key, exit and next place tell the row
-pub row-told : (r : Row) → InRange r → rowOf (keyOf (r .place) (r .entry) (r .ticket)) (r .exit) (r .next) ≡ r
-row-told r R =
+-- a row's key and tail tell the row
+pub row-told : (r : Row) → InRange r → r .next < 256 → rowOf (keyOf (r .place) (r .entry) (r .ticket)) (tailOf (r .exit) (r .next)) ≡ r
+row-told r R hn =
     let he : r .entry < 16777216 = omega (arith, R .entry) in
     let ht : r .ticket < 16777216 = omega (arith, R .ticket) in
     λ x. record {
       place = place-of-key (r .place) (r .entry) (r .ticket) he ht x;
       entry = entry-of-key (r .place) (r .entry) (r .ticket) he ht x;
       ticket = ticket-of-key (r .place) (r .entry) (r .ticket) he ht x;
-      exit = r .exit;
-      next = r .next;
+      exit = exit-of-tail (r .exit) (r .next) hn x;
+      next = next-of-tail (r .exit) (r .next) hn x;
     }
 
 -- a row whose fields are zero
@@ -74,63 +72,49 @@ good-range Y b l G i h =
 
 -- ---- the loop over the rows
 
--- the first n rows of the book are in range and stand in the arrays
-pub record RowsTo (b : Book) (K X N : List ℕ) (n : ℕ) : Type 0 where
-  pub keys : (i : ℕ) → i < n → at K i ≡ keyOf ((rowAt (b .rows) i) .place) ((rowAt (b .rows) i) .entry) ((rowAt (b .rows) i) .ticket)
-  pub exits : (i : ℕ) → i < n → at X i ≡ (rowAt (b .rows) i) .exit
-  pub nexts : (i : ℕ) → i < n → at N i ≡ (rowAt (b .rows) i) .next
-  pub ranges : (i : ℕ) → i < n → InRange (rowAt (b .rows) i)
-  pub packed : Packed K X
+-- the first n rows of the book stand in the arrays
+pub record RowsTo (b : Book) (K X : List ℕ) (n : ℕ) : Type 0 where
+  pub rows : (i : ℕ) → i < n → rowOf (at K i) (at X i) ≡ rowAt (b .rows) i
+  pub packed : Packed K
   pub len-key : length K ≡ 1024
-  pub len-exit : length X ≡ 1024
-  pub len-next : length N ≡ 1024
+  pub len-tail : length X ≡ 1024
 
 module _ (b : Book) where
-  pub rows-none : (K X N : List ℕ) → length K ≡ 1024 → length X ≡ 1024 → length N ≡ 1024 → ((i : ℕ) → at K i ≡ 0) → ((i : ℕ) → at X i ≡ 0) → RowsTo b K X N 0
-  rows-none K X N k x n zk zx = record {
-    keys = λ i h. absurd (omega arith);
-    exits = λ i h. absurd (omega arith);
-    nexts = λ i h. absurd (omega arith);
-    ranges = λ i h. absurd (omega arith);
-    packed = record { keys = λ i. omega (arith, zk i); exits = λ i. omega (arith, zx i) };
+  pub rows-none : (K X : List ℕ) → length K ≡ 1024 → length X ≡ 1024 → ((i : ℕ) → at K i ≡ 0) → RowsTo b K X 0
+  rows-none K X k x zk = record {
+    rows = λ i h. absurd (omega arith);
+    packed = record { keys = λ i. omega (arith, zk i) };
     len-key = k;
-    len-exit = x;
-    len-next = n;
+    len-tail = x;
   }
 
-  pub rows-next : (K X N : List ℕ) (i key : ℕ) → RowsTo b K X N i → i < 1024 → InRange (rowAt (b .rows) i) → (rowAt (b .rows) i) .place < 256
+  pub rows-next : (K X : List ℕ) (i key tail : ℕ) → RowsTo b K X i → i < 1024 → InRange (rowAt (b .rows) i)
+      → (rowAt (b .rows) i) .place < 256 → (rowAt (b .rows) i) .next < 256
       → key ≡ keyOf ((rowAt (b .rows) i) .place) ((rowAt (b .rows) i) .entry) ((rowAt (b .rows) i) .ticket)
-      → RowsTo b (set K i key) (set X i ((rowAt (b .rows) i) .exit)) (set N i ((rowAt (b .rows) i) .next)) (i + 1)
-  rows-next K X N i key P h R p e =
+      → tail ≡ tailOf ((rowAt (b .rows) i) .exit) ((rowAt (b .rows) i) .next)
+      → RowsTo b (set K i key) (set X i tail) (i + 1)
+  rows-next K X i key tail P h R p n e f =
       record {
-        keys = set-next (λ j. keyOf ((rowAt (b .rows) j) .place) ((rowAt (b .rows) j) .entry) ((rowAt (b .rows) j) .ticket)) K i key (omega (arith, P .len-key)) e (P .keys);
-        exits = set-next (λ j. (rowAt (b .rows) j) .exit) X i _ (omega (arith, P .len-exit)) refl (P .exits);
-        nexts = set-next (λ j. (rowAt (b .rows) j) .next) N i _ (omega (arith, P .len-next)) refl (P .nexts);
-        ranges = below-more (λ j. InRange (rowAt (b .rows) j)) i (P .ranges) R;
-        packed = record {
-          keys = set-all (λ x. x < 72057594037927936) K i key (P .packed .keys) (omega (arith, R .entry, R .ticket));
-          exits = set-all (λ x. x < 16777216) X i _ (P .packed .exits) (omega (arith, R .exit));
-        };
+        rows = below-more (λ j. rowOf (at (set K i key) j) (at (set X i tail) j) ≡ rowAt (b .rows) j) i
+            (λ j g. rw (getD-set-other K i j key 0 (λ q. omega arith), getD-set-other X i j tail 0 (λ q. omega arith)) (P .rows j g))
+            (rw (getD-set-same K i key 0 (omega (arith, P .len-key)), getD-set-same X i tail 0 (omega (arith, P .len-tail)), e, f) (row-told (rowAt (b .rows) i) R n));
+        packed = record { keys = set-all (λ x. x < 72057594037927936) K i key (P .packed .keys) (omega (arith, R .entry, R .ticket)) };
         len-key = length-set K i _ ∙ P .len-key;
-        len-exit = length-set X i _ ∙ P .len-exit;
-        len-next = length-set N i _ ∙ P .len-next;
+        len-tail = length-set X i _ ∙ P .len-tail;
       }
 
-  module _ (l : length (b .rows) ≡ 1024) {K X N : List ℕ} where
+  module _ (l : length (b .rows) ≡ 1024) {K X : List ℕ} where
     -- all rows are written
-    pub rows-all : RowsTo b K X N (b .count) → b .count ≤ 1024 → RowsFlat b K X N
+    pub rows-all : RowsTo b K X (b .count) → b .count ≤ 1024 → RowsFlat b K X
     rows-all P h = record {
       packed = P .packed;
-      rows =
-          table-take (b .count) (λ i. rowOf (at K i) (at X i) (at N i)) (b .rows) noRow (omega arith)
-          (λ i g. rw (P .keys i g, P .exits i g, P .nexts i g) (row-told (rowAt (b .rows) i) (P .ranges i g)));
+      rows = table-take (b .count) (λ i. rowOf (at K i) (at X i)) (b .rows) noRow (omega arith) (P .rows);
       fits = h;
       len-key = P .len-key;
-      len-exit = P .len-exit;
-      len-next = P .len-next;
+      len-tail = P .len-tail;
     }
 
-    refused : {n : ℕ} → RowsTo b K X N n → ((Y : Yard) → GoodBook Y b → ⊥) → BookFlat b K X N false
+    refused : {n : ℕ} → RowsTo b K X n → ((Y : Yard) → GoodBook Y b → ⊥) → BookFlat b K X false
     refused P bad = record {
       packed = P .packed;
       fits = λ q. absurd (not-both q refl);
@@ -138,31 +122,30 @@ module _ (b : Book) where
       good = λ q. absurd (not-both q refl);
       formed = λ Y G. absurd (bad Y G);
       len-key = P .len-key;
-      len-exit = P .len-exit;
-      len-next = P .len-next;
+      len-tail = P .len-tail;
     }
 
     -- a row is out of range
-    pub rows-bad : {n : ℕ} → RowsTo b K X N n → (i : ℕ) → i < b .count → (InRange (rowAt (b .rows) i) → ⊥) → BookFlat b K X N false
+    pub rows-bad : {n : ℕ} → RowsTo b K X n → (i : ℕ) → i < b .count → (InRange (rowAt (b .rows) i) → ⊥) → BookFlat b K X false
     rows-bad P i h f = refused P (λ Y G. f (good-range Y b l G i h))
 
     -- the count is out of range
-    pub rows-many : {n : ℕ} → RowsTo b K X N n → 1024 < b .count → BookFlat b K X N false
+    pub rows-many : {n : ℕ} → RowsTo b K X n → 1024 < b .count → BookFlat b K X false
     rows-many P h = refused P (λ Y G. omega (arith, G .fits))
 
 -- ---- the loop over the slots past the count
 
 -- the rows are in the arrays, and the slots before slot i hold zeros
-pub record ZeroTo (b : Book) (K X N : List ℕ) (i : ℕ) : Type 0 where
-  pub flat : RowsFlat b K X N
+pub record ZeroTo (b : Book) (K X : List ℕ) (i : ℕ) : Type 0 where
+  pub flat : RowsFlat b K X
   pub past : b .count ≤ i
   pub zeros : (k : ℕ) → b .count ≤ k → k < i → rowAt (b .rows) k ≡ noRow
 
-module _ (b : Book) {K X N : List ℕ} where
-  pub zero-none : RowsFlat b K X N → ZeroTo b K X N (b .count)
+module _ (b : Book) {K X : List ℕ} where
+  pub zero-none : RowsFlat b K X → ZeroTo b K X (b .count)
   zero-none F = record { flat = F; past = omega arith; zeros = λ k a h. absurd (omega arith) }
 
-  pub zero-next : {i : ℕ} → ZeroTo b K X N i → rowAt (b .rows) i ≡ noRow → ZeroTo b K X N (i + 1)
+  pub zero-next : {i : ℕ} → ZeroTo b K X i → rowAt (b .rows) i ≡ noRow → ZeroTo b K X (i + 1)
   zero-next {i} Z e = record {
     flat = Z .flat;
     past = omega (arith, Z .past);
@@ -170,7 +153,7 @@ module _ (b : Book) {K X N : List ℕ} where
   }
 
   -- a slot past the count is used
-  pub spare-bad : {i : ℕ} → ZeroTo b K X N i → i < 1024 → (rowAt (b .rows) i ≡ noRow → ⊥) → BookFlat b K X N false
+  pub spare-bad : {i : ℕ} → ZeroTo b K X i → i < 1024 → (rowAt (b .rows) i ≡ noRow → ⊥) → BookFlat b K X false
   spare-bad {i} Z h f = record {
     packed = Z .flat .packed;
     fits = λ _. Z .flat .fits;
@@ -178,12 +161,11 @@ module _ (b : Book) {K X N : List ℕ} where
     good = λ q. absurd (not-both q refl);
     formed = λ Y G. absurd (f (G .spare i (Z .past) h));
     len-key = Z .flat .len-key;
-    len-exit = Z .flat .len-exit;
-    len-next = Z .flat .len-next;
+    len-tail = Z .flat .len-tail;
   }
 
   -- none is
-  pub spare-all : ZeroTo b K X N 1024 → BookFlat b K X N true
+  pub spare-all : ZeroTo b K X 1024 → BookFlat b K X true
   spare-all Z =
       let F = Z .flat in
       record {
@@ -193,6 +175,5 @@ module _ (b : Book) {K X N : List ℕ} where
         good = λ _ Y W. record { fits = F .fits; spare = Z .zeros; formed = subst (λ rows. WellFormed Y rows (b .«next_ticket»)) (F .rows) W };
         formed = λ Y G. (refl, subst (λ rows. WellFormed Y rows (b .«next_ticket»)) (sym (F .rows)) (G .formed));
         len-key = F .len-key;
-        len-exit = F .len-exit;
-        len-next = F .len-next;
+        len-tail = F .len-tail;
       }

@@ -60,7 +60,7 @@ fn row_in_range(r: Row) -> bool
 fn row_key(r: Row) -> u64
     ensures { λ k. ⌜ (k ≡ keyOf (r .place) (r .entry) (r .ticket)) × (r .place < 256) ⌝ }
 {
-    (r.place as u64) * 281474976710656 + (r.entry as u64) * 16777216 + (r.ticket as u64)
+    (r.place as u64) * flat::PLACE + (r.entry as u64) * flat::SECOND + (r.ticket as u64)
 }
 
 // all fields zero
@@ -83,19 +83,11 @@ fn is_zero(r: Row) -> bool
 }
 
 // The book's rows in the arrays: their count, and 1,025, which no book has, where the book is not one.
-pub fn read_book(
-    b: Book,
-    key: &mut [u64; 1024],
-    exit: &mut [u32; 1024],
-    next: &mut [u8; 1024],
-) -> usize
+pub fn read_book(b: Book, key: &mut [u64; 1024], tail: &mut [u32; 1024]) -> usize
     requires { ⌜ length (now key) ≡ 1024 ⌝ }
-    requires { ⌜ length (now exit) ≡ 1024 ⌝ }
-    requires { ⌜ length (now next) ≡ 1024 ⌝ }
+    requires { ⌜ length (now tail) ≡ 1024 ⌝ }
     requires { ⌜ ((i : ℕ) → at (now key) i ≡ 0) ⌝ }
-    requires { ⌜ ((i : ℕ) → at (now exit) i ≡ 0) ⌝ }
-    requires { ⌜ ((i : ℕ) → at (now next) i ≡ 0) ⌝ }
-    ensures { λ r. ⌜ BookRead b (now (key .exit)) (now (exit .exit)) (now (next .exit)) r ⌝ }
+    ensures { λ r. ⌜ BookRead b (now (key .exit)) (now (tail .exit)) r ⌝ }
 {
     let n = b.count;
     if n > 1024 {
@@ -108,8 +100,7 @@ pub fn read_book(
             return 1025;
         }
         key[i] = row_key(r);
-        exit[i] = r.exit;
-        next[i] = r.next;
+        tail[i] = flat::tail_of(r.exit, r.next);
         i += 1;
     }
     while i < 1024 {

@@ -5,6 +5,10 @@ use mathlib.Core.Logic.{_⊎_, inl, inr}
 use mathlib.Core.Bool.{Bool, true, false, _&&_, _||_, false≢true}
 use native.Mathlib.Omega.{arith}
 
+-- b is true exactly where A holds
+abbrev pub Decides : Bool → Type 0 → Type 0
+Decides b A = (b ≡ true → A) × (A → b ≡ true)
+
 pub true-or-false : (b : Bool) → (b ≡ true) ⊎ (b ≡ false)
 true-or-false true = inl refl
 true-or-false false = inr refl

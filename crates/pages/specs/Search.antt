@@ -63,12 +63,12 @@ module _ {K : List ℕ} {count : ℕ} (R : KeysRise K count) {k : Key} {lo hi : 
   }
 
 -- where the stretch is empty the first row above the key is found
-pub between-end : (K X N : List ℕ) {k : Key} {count lo hi : ℕ} → Between K k count lo hi → hi ≤ lo → FirstAfter (rowsIn K X N count) k lo
-between-end K X N {k} {count} {lo} {hi} b h =
-    let c = rows-long K X N count in
+pub between-end : (K X : List ℕ) {k : Key} {count lo hi : ℕ} → Between K k count lo hi → hi ≤ lo → FirstAfter (rowsIn K X count) k lo
+between-end K X {k} {count} {lo} {hi} b h =
+    let c = rows-long K X count in
     let i : lo ≤ count = omega (arith, b .within, b .ordered) in
     record {
       within = omega arith;
-      before = λ i l. rw (row-in K X N count i (omega arith)) (b .no i l);
-      from = λ i l m. let u : i < count = omega arith in rw (row-in K X N count i u) (b .yes i (omega arith) u);
+      before = λ i l. rw (row-in K X count i (omega arith)) (b .no i l);
+      from = λ i l m. let u : i < count = omega arith in rw (row-in K X count i u) (b .yes i (omega arith) u);
     }

@@ -58,46 +58,46 @@ last-tabulate k zero f = refl
 last-tabulate k (suc m) f = last-tabulate (rowKey (f 0)) m (λ i. f (suc i))
 
 -- the last of n rows of the arrays from an index on
-module _ (K X N : List ℕ) (from n : ℕ) (k : Key) where
-  pub last-none : n ≡ 0 → k ≡ lastKey k (rowsFor K X N from n)
+module _ (K X : List ℕ) (from n : ℕ) (k : Key) where
+  pub last-none : n ≡ 0 → k ≡ lastKey k (rowsFor K X from n)
   unfolding tabulate
   last-none e = rw e
 
-  pub last-some : {r : Row} → (n ≡ 0 → ⊥) → r ≡ rowOf (at K (from + (n - 1))) (at X (from + (n - 1))) (at N (from + (n - 1))) → rowKey r ≡ lastKey k (rowsFor K X N from n)
+  pub last-some : {r : Row} → (n ≡ 0 → ⊥) → r ≡ rowOf (at K (from + (n - 1))) (at X (from + (n - 1))) → rowKey r ≡ lastKey k (rowsFor K X from n)
   last-some some e = ap rowKey e ∙ sym (by n some)
     where
-      by : (n : ℕ) → (n ≡ 0 → ⊥) → lastKey k (rowsFor K X N from n) ≡ rowKey (rowOf (at K (from + (n - 1))) (at X (from + (n - 1))) (at N (from + (n - 1))))
+      by : (n : ℕ) → (n ≡ 0 → ⊥) → lastKey k (rowsFor K X from n) ≡ rowKey (rowOf (at K (from + (n - 1))) (at X (from + (n - 1))))
       by zero h = absurd (h refl)
-      by (suc m) h = let o : suc m - 1 ≡ m = omega arith in rw o (last-tabulate k m (λ i. rowOf (at K (from + i)) (at X (from + i)) (at N (from + i))))
+      by (suc m) h = let o : suc m - 1 ≡ m = omega arith in rw o (last-tabulate k m (λ i. rowOf (at K (from + i)) (at X (from + i))))
 
 -- the rows of the arrays above a key, from the index of the first of them on
-module _ (K X N : List ℕ) (count : ℕ) (k : Key) {first : ℕ} (F : FirstAfter (rowsIn K X N count) k first) where
+module _ (K X : List ℕ) (count : ℕ) (k : Key) {first : ℕ} (F : FirstAfter (rowsIn K X count) k first) where
   pub first-within : first ≤ count
-  first-within = omega (arith, F .within, rows-long K X N count)
+  first-within = omega (arith, F .within, rows-long K X count)
 
-  pub after-long : length (after k (rowsIn K X N count)) ≡ count - first
+  pub after-long : length (after k (rowsIn K X count)) ≡ count - first
   after-long =
-      ap length (sym (drop-first (rowsIn K X N count) k first F))
-      ∙ length-drop first (rowsIn K X N count)
-      ∙ ap (λ (n : ℕ). n - first) (rows-long K X N count)
+      ap length (sym (drop-first (rowsIn K X count) k first F))
+      ∙ length-drop first (rowsIn K X count)
+      ∙ ap (λ (n : ℕ). n - first) (rows-long K X count)
 
   -- a page is a run of the arrays' rows
-  pub page-run : (size n : ℕ) → Lesser size (count - first) n → pageRows size k (rowsIn K X N count) ≡ rowsFor K X N first n
+  pub page-run : (size n : ℕ) → Lesser size (count - first) n → pageRows size k (rowsIn K X count) ≡ rowsFor K X first n
   page-run size n f =
-      take-lesser size (after k (rowsIn K X N count)) {m = n} (rw after-long f)
-      ∙ ap (take n) (sym (drop-first (rowsIn K X N count) k first F))
-      ∙ sym (rows-for K X N first n count (omega (arith, f .right, first-within)))
+      take-lesser size (after k (rowsIn K X count)) {m = n} (rw after-long f)
+      ∙ ap (take n) (sym (drop-first (rowsIn K X count) k first F))
+      ∙ sym (rows-for K X first n count (omega (arith, f .right, first-within)))
 
   -- the answer of a page, of its parts
   pub page-done : (size : ℕ) (was out : List ℕ) (s : Shown) → Lesser size (count - first) (s .count) → s .more ≡ ltb size (count - first)
-      → cursorKey (s .cursor) ≡ lastKey k (rowsFor K X N first (s .count))
-      → out ≡ written (rowsFor K X N first (s .count)) was
-      → PageDone (rowsIn K X N count) size k was out (Done s)
+      → cursorKey (s .cursor) ≡ lastKey k (rowsFor K X first (s .count))
+      → out ≡ written (rowsFor K X first (s .count)) was
+      → PageDone (rowsIn K X count) size k was out (Done s)
   page-done size was out s f m c o =
       let e = page-run size (s .count) f in
       record {
         code = refl;
-        counts = rw e (sym (length-tabulate (s .count) (λ i. rowOf (at K (first + i)) (at X (first + i)) (at N (first + i)))));
+        counts = rw e (sym (length-tabulate (s .count) (λ i. rowOf (at K (first + i)) (at X (first + i)))));
         says = rw after-long m;
         hands = rw e c;
         holds = rw e o;

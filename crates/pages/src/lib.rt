@@ -15,23 +15,17 @@ ghost use Rattle.pages.specs.Search.{FirstAfter};
 ghost use Rattle.pages.specs.Shown.{Lesser};
 
 // The index of the first row above the cursor, count where there is none.
-pub fn first_after(
-    key: &[u64; 1024],
-    exit: &[u32; 1024],
-    next: &[u8; 1024],
-    count: usize,
-    c: Cursor,
-) -> usize
+pub fn first_after(key: &[u64; 1024], tail: &[u32; 1024], count: usize, c: Cursor) -> usize
     requires { ⌜ count ≤ 1024 ⌝ }
     requires { ⌜ KeysRise (now key) count ⌝ }
-    requires { ⌜ Packed (now key) (now exit) ⌝ }
-    ensures { λ r. ⌜ FirstAfter (rowsIn (now (key .entry)) (now (exit .entry)) (now (next .entry)) count) (cursorKey c) r ⌝ }
+    requires { ⌜ Packed (now key) ⌝ }
+    ensures { λ r. ⌜ FirstAfter (rowsIn (now (key .entry)) (now (tail .entry)) count) (cursorKey c) r ⌝ }
 {
     let mut lo: usize = 0;
     let mut hi = count;
     while lo < hi {
         let mid = lo + (hi - lo) / 2;
-        let r = row_at(key, exit, next, mid);
+        let r = row_at(key, tail, mid);
         if c.before(r) {
             hi = mid;
         } else {
@@ -51,22 +45,15 @@ fn lesser(a: usize, b: usize) -> usize
 }
 
 // The cursor after n rows from an index on: the last one's key, or the cursor given where there is none.
-fn cursor_after(
-    key: &[u64; 1024],
-    exit: &[u32; 1024],
-    next: &[u8; 1024],
-    from: usize,
-    n: usize,
-    c: Cursor,
-) -> Cursor
+fn cursor_after(key: &[u64; 1024], tail: &[u32; 1024], from: usize, n: usize, c: Cursor) -> Cursor
     requires { ⌜ from + n ≤ 1024 ⌝ }
-    requires { ⌜ Packed (now key) (now exit) ⌝ }
-    ensures { λ r. ⌜ cursorKey r ≡ lastKey (cursorKey c) (rowsFor (now (key .entry)) (now (exit .entry)) (now (next .entry)) from n) ⌝ }
+    requires { ⌜ Packed (now key) ⌝ }
+    ensures { λ r. ⌜ cursorKey r ≡ lastKey (cursorKey c) (rowsFor (now (key .entry)) (now (tail .entry)) from n) ⌝ }
 {
     if n == 0 {
         return c;
     }
-    let last = row_at(key, exit, next, from + (n - 1));
+    let last = row_at(key, tail, from + (n - 1));
     c.moved(last)
 }
 
@@ -74,26 +61,25 @@ fn cursor_after(
 pub fn page_of(
     count: usize,
     key: &[u64; 1024],
-    exit: &[u32; 1024],
-    next: &[u8; 1024],
+    tail: &[u32; 1024],
     size: u32,
     c: Cursor,
     out: &mut [u8],
 ) -> Shown
     requires { ⌜ count ≤ 1024 ⌝ }
     requires { ⌜ KeysRise (now key) count ⌝ }
-    requires { ⌜ Packed (now key) (now exit) ⌝ }
+    requires { ⌜ Packed (now key) ⌝ }
     requires { ⌜ 1 ≤ size ⌝ }
     requires { ⌜ size ≤ 64 ⌝ }
     requires { ⌜ size ≤ records (now out) ⌝ }
-    ensures { λ r. ⌜ PageDone (rowsIn (now (key .entry)) (now (exit .entry)) (now (next .entry)) count) size (cursorKey c) (now (out .entry)) (now (out .exit)) (Paged.Done r) ⌝ }
+    ensures { λ r. ⌜ PageDone (rowsIn (now (key .entry)) (now (tail .entry)) count) size (cursorKey c) (now (out .entry)) (now (out .exit)) (Paged.Done r) ⌝ }
 {
     let asked = size as usize;
-    let first = first_after(key, exit, next, count, c);
+    let first = first_after(key, tail, count, c);
     let left = count - first;
     let n = lesser(asked, left);
-    copy_rows(key, exit, next, first, n, out);
-    let cursor = cursor_after(key, exit, next, first, n, c);
+    copy_rows(key, tail, first, n, out);
+    let cursor = cursor_after(key, tail, first, n, c);
     Shown {
         count: n,
         more: asked < left,

@@ -17,16 +17,15 @@ fn page_sound(
     n: usize,
     count: usize,
     key: &[u64; 1024],
-    exit: &[u32; 1024],
-    next: &[u8; 1024],
+    tail: &[u32; 1024],
     size: u32,
     c: Cursor,
     out: &mut [u8],
 ) -> Paged
     requires { ⌜ count ≤ 1024 ⌝ }
     requires { ⌜ KeysRise (now key) count ⌝ }
-    requires { ⌜ Packed (now key) (now exit) ⌝ }
-    ensures { λ r. ⌜ ((Y : Yard) → Y .places ≡ n → PageSound Y (rowsIn (now (key .entry)) (now (exit .entry)) (now (next .entry)) count) size (cursorKey c) (now (out .entry)) (now (out .exit)) r) ⌝ }
+    requires { ⌜ Packed (now key) ⌝ }
+    ensures { λ r. ⌜ ((Y : Yard) → Y .places ≡ n → PageSound Y (rowsIn (now (key .entry)) (now (tail .entry)) count) size (cursorKey c) (now (out .entry)) (now (out .exit)) r) ⌝ }
 {
     if size == 0 {
         return Paged::Refused(Refusal::BadSize);
@@ -48,7 +47,7 @@ fn page_sound(
     if out.len() / 11 < asked {
         return Paged::Refused(Refusal::ShortList);
     }
-    let s = pages::page_of(count, key, exit, next, size, c, out);
+    let s = pages::page_of(count, key, tail, size, c, out);
     Paged::Done(s)
 }
 
@@ -63,14 +62,13 @@ pub fn page_flat(
     count: usize,
     next_ticket: u32,
     key: &[u64; 1024],
-    exit: &[u32; 1024],
-    next: &[u8; 1024],
+    tail: &[u32; 1024],
     size: u32,
     c: Cursor,
     out: &mut [u8],
 ) -> Paged
-    requires { ⌜ Packed (now key) (now exit) ⌝ }
-    ensures { λ r. ⌜ PageSays (MapRules (placesIn (now (cap .entry)) (now (dur .entry)) n) (linksIn (now (from .entry)) (now (to .entry)) k)) (WellFormed (yardIn (now (cap .entry)) (now (dur .entry)) n (now (from .entry)) (now (to .entry)) k) (rowsIn (now (key .entry)) (now (exit .entry)) (now (next .entry)) count) «next_ticket») (yardIn (now (cap .entry)) (now (dur .entry)) n (now (from .entry)) (now (to .entry)) k) (rowsIn (now (key .entry)) (now (exit .entry)) (now (next .entry)) count) size (cursorKey c) (now (out .entry)) (now (out .exit)) r ⌝ }
+    requires { ⌜ Packed (now key) ⌝ }
+    ensures { λ r. ⌜ PageSays (MapRules (placesIn (now (cap .entry)) (now (dur .entry)) n) (linksIn (now (from .entry)) (now (to .entry)) k)) (WellFormed (yardIn (now (cap .entry)) (now (dur .entry)) n (now (from .entry)) (now (to .entry)) k) (rowsIn (now (key .entry)) (now (tail .entry)) count) «next_ticket») (yardIn (now (cap .entry)) (now (dur .entry)) n (now (from .entry)) (now (to .entry)) k) (rowsIn (now (key .entry)) (now (tail .entry)) count) size (cursorKey c) (now (out .entry)) (now (out .exit)) r ⌝ }
 {
     let mut head = [0u16; 256];
     let mut chain = [0u16; 1024];
@@ -90,8 +88,7 @@ pub fn page_flat(
         count,
         next_ticket,
         key,
-        exit,
-        next,
+        tail,
         &mut start,
         &mut end,
         &mut place,
@@ -103,7 +100,7 @@ pub fn page_flat(
     if m >= 1281 {
         return Paged::Refused(Refusal::BadBook);
     }
-    page_sound(n, count, key, exit, next, size, c, out)
+    page_sound(n, count, key, tail, size, c, out)
 }
 
 // The rows of the book after a cursor: they are written to the caller's list.
@@ -117,9 +114,8 @@ pub fn page(m: Map, b: Book, size: u32, c: Cursor, out: &mut [u8]) -> Paged
     flatten::flat_places(m, &mut cap, &mut dur);
     flatten::flat_links(m, &mut from, &mut to);
     let mut key = [0u64; 1024];
-    let mut exit = [0u32; 1024];
-    let mut next = [0u8; 1024];
-    let count = flatten::read_book(b, &mut key, &mut exit, &mut next);
+    let mut tail = [0u32; 1024];
+    let count = flatten::read_book(b, &mut key, &mut tail);
     page_flat(
         m.place_count,
         m.link_count,
@@ -130,8 +126,7 @@ pub fn page(m: Map, b: Book, size: u32, c: Cursor, out: &mut [u8]) -> Paged
         count,
         b.next_ticket,
         &key,
-        &exit,
-        &next,
+        &tail,
         size,
         c,
         out,

@@ -81,8 +81,7 @@ pub fn route(
     end: &[u32; 1280],
     first: &[u16; 257],
     key: &[u64; 1024],
-    exit: &[u32; 1024],
-    next: &[u8; 1024],
+    tail: &[u32; 1024],
     n: usize,
     origin: usize,
     dest: usize,
@@ -90,12 +89,12 @@ pub fn route(
     label: &mut [u32; 1280],
     path: &mut [u16; 1280],
 ) -> usize
-    requires { ⌜ Lanes (now cap) (now dur) (now from) (now to) (now head) (now chain) places links (rowsIn (now key) (now exit) (now next) n) n (now place) (now start) (now end) (now first) windows ⌝ }
-    requires { ⌜ ((p t : ℕ) → p < yardIn (now cap) (now dur) places (now from) (now to) links .places → load (rowsIn (now key) (now exit) (now next) n) p t ≤ yardIn (now cap) (now dur) places (now from) (now to) links .cap p) ⌝ }
+    requires { ⌜ Lanes (now cap) (now dur) (now from) (now to) (now head) (now chain) places links (rowsIn (now key) (now tail) n) n (now place) (now start) (now end) (now first) windows ⌝ }
+    requires { ⌜ ((p t : ℕ) → p < yardIn (now cap) (now dur) places (now from) (now to) links .places → load (rowsIn (now key) (now tail) n) p t ≤ yardIn (now cap) (now dur) places (now from) (now to) links .cap p) ⌝ }
     requires { ⌜ (origin < places) × (dest < places) × (s ≤ 86400) ⌝ }
     requires { ⌜ ((v : ℕ) → v < 1280 → at (now label) v ≡ 86401) ⌝ }
     requires { ⌜ (length (now label) ≡ 1280) × (length (now path) ≡ 1280) ⌝ }
-    ensures { λ r. ⌜ Routed (yardIn (now (cap .entry)) (now (dur .entry)) places (now (from .entry)) (now (to .entry)) links) (rowsIn (now (key .entry)) (now (exit .entry)) (now (next .entry)) n) origin dest s windows (now (dur .entry)) (now (place .entry)) (now (start .entry)) (now (end .entry)) (now (label .exit)) (now (path .exit)) r ⌝ }
+    ensures { λ r. ⌜ Routed (yardIn (now (cap .entry)) (now (dur .entry)) places (now (from .entry)) (now (to .entry)) links) (rowsIn (now (key .entry)) (now (tail .entry)) n) origin dest s windows (now (dur .entry)) (now (place .entry)) (now (start .entry)) (now (end .entry)) (now (label .exit)) (now (path .exit)) r ⌝ }
 {
     let a = broad(first[origin]);
     let b = broad(first[origin + 1]);
@@ -120,8 +119,7 @@ pub fn route(
         end,
         first,
         key,
-        exit,
-        next,
+        tail,
         n,
         src,
         s,

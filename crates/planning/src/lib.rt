@@ -15,9 +15,8 @@ pub fn plan(m: Map, b: Book, start: u32, destination: u32, second: u32, out: &mu
     flatten::flat_places(m, &mut cap, &mut dur);
     flatten::flat_links(m, &mut from, &mut to);
     let mut key = [0u64; 1024];
-    let mut exit = [0u32; 1024];
-    let mut next = [0u8; 1024];
-    let count = flatten::read_book(b, &mut key, &mut exit, &mut next);
+    let mut tail = [0u32; 1024];
+    let count = flatten::read_book(b, &mut key, &mut tail);
     desk::plan_flat(
         m.place_count,
         m.link_count,
@@ -28,8 +27,7 @@ pub fn plan(m: Map, b: Book, start: u32, destination: u32, second: u32, out: &mu
         count,
         b.next_ticket,
         &key,
-        &exit,
-        &next,
+        &tail,
         start,
         destination,
         second,

@@ -6,7 +6,7 @@ use mathlib.Core.Logic.{⊎-elim}
 use mathlib.Core.Bool.{Bool, true, false}
 use mathlib.Core.List.{List}
 use native.Mathlib.Omega.{arith}
-use Rattle.laws.specs.Tests.{true-or-false}
+use Rattle.laws.specs.Tests.{Decides, true-or-false}
 use Rattle.laws.specs.Lists.{at}
 use Rattle.rules.specs.declared.Planned.{Planned}
 use Rattle.rules.specs.declared.Paged.{Paged}
@@ -21,21 +21,17 @@ use Rattle.wire.specs.Reading.{PlacesOf, LinksOf, RowsOf}
 use Rattle.wire.specs.Slices.{MapShape, BookShape, map-shape, book-shape, slice-places, slice-links, slice-rows}
 use Rattle.desk.specs.Transfer.{plan-carry, page-carry}
 
--- a test that was answered says what it tests
-abbrev pub Tests : Bool → Type 0 → Type 0
-Tests b A = (b ≡ true → A) × (A → b ≡ true)
-
 -- ---- the map
 
 -- the arrays hold the slice's n places and k links; no places where its shape is wrong
 pub record MapRead (s C D F T : List ℕ) (n k : ℕ) : Type 0 where
   pub read : Bool
-  pub shape : Tests read (MapShape s)
+  pub shape : Decides read (MapShape s)
   pub places : read ≡ true → placesIn C D n ≡ slicePlaces s
   pub links : read ≡ true → linksIn F T k ≡ sliceLinks s
   pub none : read ≡ false → n ≡ 0
 
-pub map-misread : {b : Bool} {s : List ℕ} (C D F T : List ℕ) → Tests b (MapShape s) → b ≡ false → MapRead s C D F T 0 0
+pub map-misread : {b : Bool} {s : List ℕ} (C D F T : List ℕ) → Decides b (MapShape s) → b ≡ false → MapRead s C D F T 0 0
 map-misread {b} {s} C D F T t f = record {
   read = b;
   shape = t;
@@ -77,17 +73,17 @@ module _ {s C D F T : List ℕ} {n k : ℕ} (R : MapRead s C D F T n k) where
 -- ---- the book
 
 -- the arrays hold the slice's rows, count of them; 1,025 where its shape is wrong
-pub record BookRead (s K X N : List ℕ) (count ticket : ℕ) : Type 0 where
-  pub packed : Packed K X
+pub record BookRead (s K X : List ℕ) (count ticket : ℕ) : Type 0 where
+  pub packed : Packed K
   pub read : Bool
-  pub shape : Tests read (BookShape s)
-  pub rows : read ≡ true → rowsIn K X N count ≡ sliceRows s
+  pub shape : Decides read (BookShape s)
+  pub rows : read ≡ true → rowsIn K X count ≡ sliceRows s
   pub issues : read ≡ true → ticket ≡ sliceTicket s
   pub none : read ≡ false → count ≡ 1025
 
-pub book-misread : {b : Bool} {s : List ℕ} (K X N : List ℕ) → ((i : ℕ) → at K i ≡ 0) → ((i : ℕ) → at X i ≡ 0) → Tests b (BookShape s) → b ≡ false → BookRead s K X N 1025 0
-book-misread {b} {s} K X N zk zx t f = record {
-  packed = record { keys = λ i. omega (arith, zk i); exits = λ i. omega (arith, zx i) };
+pub book-misread : {b : Bool} {s : List ℕ} (K X : List ℕ) → ((i : ℕ) → at K i ≡ 0) → Decides b (BookShape s) → b ≡ false → BookRead s K X 1025 0
+book-misread {b} {s} K X zk t f = record {
+  packed = record { keys = λ i. omega (arith, zk i) };
   read = b;
   shape = t;
   rows = λ e. absurd (no-two e);
@@ -98,7 +94,7 @@ book-misread {b} {s} K X N zk zx t f = record {
     no-two : b ≡ true → ⊥
     no-two e = let z : _≡_ {A = ℕ} 0 1 = cc in omega arith
 
-pub book-read : {s K X N : List ℕ} {count ticket : ℕ} → BookShape s → RowsOf s count K X N → count ≡ num2 s 3 → ticket ≡ sliceTicket s → BookRead s K X N count ticket
+pub book-read : {s K X : List ℕ} {count ticket : ℕ} → BookShape s → RowsOf s count K X → count ≡ num2 s 3 → ticket ≡ sliceTicket s → BookRead s K X count ticket
 book-read S R a b = record {
   packed = R .packed;
   read = true;
@@ -108,24 +104,24 @@ book-read S R a b = record {
   none = λ e. let z : _≡_ {A = ℕ} 0 1 = cc in absurd (omega arith);
 }
 
-module _ {s K X N : List ℕ} {count ticket : ℕ} (R : BookRead s K X N count ticket) where
-  module _ {Y : Yard} (W : WellFormed Y (rowsIn K X N count) ticket) where
+module _ {s K X : List ℕ} {count ticket : ℕ} (R : BookRead s K X count ticket) where
+  module _ {Y : Yard} (W : WellFormed Y (rowsIn K X count) ticket) where
     -- 1,025 rows are too many
     book-true : R .read ≡ true
-    book-true = ⊎-elim (λ t. t) (λ f. absurd (omega (arith, W .few, rows-long K X N count, R .none f))) (true-or-false (R .read))
+    book-true = ⊎-elim (λ t. t) (λ f. absurd (omega (arith, W .few, rows-long K X count, R .none f))) (true-or-false (R .read))
 
     pub book-to : BookSlice Y s
     book-to = let S = R .shape .0 book-true in record { counts = S .counts; fits = S .fits; formed = rw (R .rows book-true, R .issues book-true) at W }
 
-    pub book-rows : rowsIn K X N count ≡ sliceRows s
+    pub book-rows : rowsIn K X count ≡ sliceRows s
     book-rows = R .rows book-true
 
-  pub book-of : {Y : Yard} → BookSlice Y s → WellFormed Y (rowsIn K X N count) ticket
+  pub book-of : {Y : Yard} → BookSlice Y s → WellFormed Y (rowsIn K X count) ticket
   book-of B = let t = R .shape .1 (book-shape B) in rw (R .rows t, R .issues t) (B .formed)
 
 -- ---- what is said of the arrays is said of the slices
 
-module _ {map book C D F T K X N : List ℕ} {n k count ticket : ℕ} (M : MapRead map C D F T n k) (B : BookRead book K X N count ticket) where
+module _ {map book C D F T K X : List ℕ} {n k count ticket : ℕ} (M : MapRead map C D F T n k) (B : BookRead book K X count ticket) where
   abbrev yard : Yard
   yard = yardIn C D n F T k
 
@@ -133,7 +129,7 @@ module _ {map book C D F T K X N : List ℕ} {n k count ticket : ℕ} (M : MapRe
   map-ok = MapRules (placesIn C D n) (linksIn F T k)
 
   abbrev book-ok : Type 0
-  book-ok = WellFormed yard (rowsIn K X N count) ticket
+  book-ok = WellFormed yard (rowsIn K X count) ticket
 
   to-book : map-ok → book-ok → BookSlice (sliceYard map) book
   to-book R W = subst (λ (z : Yard). BookSlice z book) (map-yard M R) (book-to B W)
@@ -141,10 +137,10 @@ module _ {map book C D F T K X N : List ℕ} {n k count ticket : ℕ} (M : MapRe
   of-book : map-ok → BookSlice (sliceYard map) book → book-ok
   of-book R S = book-of B (subst (λ (z : Yard). BookSlice z book) (sym (map-yard M R)) S)
 
-  pub portal-plan : {start dest s : ℕ} {was out : List ℕ} {p : Planned} {r : ℕ} → PlanSays map-ok book-ok yard (rowsIn K X N count) start dest s was out p
+  pub portal-plan : {start dest s : ℕ} {was out : List ℕ} {p : Planned} {r : ℕ} → PlanSays map-ok book-ok yard (rowsIn K X count) start dest s was out p
       → r ≡ oneNumber (plannedNumber p) (plannedArrival p) (plannedCount p) → PortalPlan map book start dest s was out r
   portal-plan {p = p} x e = record { answer = p; says = plan-carry (map-to M) (map-of M) to-book of-book (λ R W. (map-yard M R, book-rows B W)) x; result = e }
 
-  pub portal-page : {size : ℕ} {c : Key} {was out : List ℕ} {p : Paged} {r : ℕ} → PageSays map-ok book-ok yard (rowsIn K X N count) size c was out p
+  pub portal-page : {size : ℕ} {c : Key} {was out : List ℕ} {p : Paged} {r : ℕ} → PageSays map-ok book-ok yard (rowsIn K X count) size c was out p
       → r ≡ oneNumber (pagedNumber p) (bit (pagedMore p)) (pagedCount p) → PortalPage map book size c was out r
   portal-page {p = p} x e = record { answer = p; says = page-carry (map-to M) (map-of M) to-book of-book (λ R W. (map-yard M R, book-rows B W)) x; result = e }

@@ -54,18 +54,11 @@ fn read_map(
 }
 
 // The rows of a book slice in the arrays; 1,025 rows, which no book has, where its count doesn't give its length.
-fn read_book(
-    s: &[u8],
-    key: &mut [u64; 1024],
-    exit: &mut [u32; 1024],
-    next: &mut [u8; 1024],
-) -> BookHead
+fn read_book(s: &[u8], key: &mut [u64; 1024], tail: &mut [u32; 1024]) -> BookHead
     requires { ⌜ length (now key) ≡ 1024 ⌝ }
-    requires { ⌜ length (now exit) ≡ 1024 ⌝ }
-    requires { ⌜ length (now next) ≡ 1024 ⌝ }
+    requires { ⌜ length (now tail) ≡ 1024 ⌝ }
     requires { ⌜ ((i : ℕ) → at (now key) i ≡ 0) ⌝ }
-    requires { ⌜ ((i : ℕ) → at (now exit) i ≡ 0) ⌝ }
-    ensures { λ r. ⌜ BookRead (now (s .entry)) (now (key .exit)) (now (exit .exit)) (now (next .exit)) (r .count) (r .ticket) ⌝ }
+    ensures { λ r. ⌜ BookRead (now (s .entry)) (now (key .exit)) (now (tail .exit)) (r .count) (r .ticket) ⌝ }
 {
     if !wire::book_shape(s) {
         return BookHead {
@@ -75,7 +68,7 @@ fn read_book(
     }
     let t = wire::three(s, 0);
     let n = wire::two(s, 3) as usize;
-    wire::read_rows(s, n, key, exit, next);
+    wire::read_rows(s, n, key, tail);
     BookHead {
         count: n,
         ticket: t,
@@ -127,9 +120,8 @@ pub extern "C" fn lanebook_plan(
     let mut to = [0u8; 1024];
     let m = read_map(map, &mut cap, &mut dur, &mut from, &mut to);
     let mut key = [0u64; 1024];
-    let mut exit = [0u32; 1024];
-    let mut next = [0u8; 1024];
-    let b = read_book(book, &mut key, &mut exit, &mut next);
+    let mut tail = [0u32; 1024];
+    let b = read_book(book, &mut key, &mut tail);
     let p = desk::plan_flat(
         m.places,
         m.links,
@@ -140,8 +132,7 @@ pub extern "C" fn lanebook_plan(
         b.count,
         b.ticket,
         &key,
-        &exit,
-        &next,
+        &tail,
         start,
         destination,
         second,
@@ -169,9 +160,8 @@ pub extern "C" fn lanebook_page(
     let mut to = [0u8; 1024];
     let m = read_map(map, &mut cap, &mut dur, &mut from, &mut to);
     let mut key = [0u64; 1024];
-    let mut exit = [0u32; 1024];
-    let mut next = [0u8; 1024];
-    let b = read_book(book, &mut key, &mut exit, &mut next);
+    let mut tail = [0u32; 1024];
+    let b = read_book(book, &mut key, &mut tail);
     let c = Cursor {
         place: place,
         entry: entry,
@@ -187,8 +177,7 @@ pub extern "C" fn lanebook_page(
         b.count,
         b.ticket,
         &key,
-        &exit,
-        &next,
+        &tail,
         size,
         c,
         answer,

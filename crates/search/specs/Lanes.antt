@@ -59,11 +59,10 @@ module _ {C D F T H N : List ℕ} {n k : ℕ} {rows : List Row} {c : ℕ} {P S E
       absurd (omega (arith, subst (λ p. Window Y rows p (at S j) (at E j)) g b .left x (omega arith), a .free x (omega arith) (omega arith))))
       (lt-or-ge (at E i) (at S j))
 
-  pub lanes-ground : Ground n k c m D F T H N P S E I
+  pub lanes-ground : Ground n k m D F T H N P S E I
   lanes-ground = record {
     places = omega (arith, L .rules .few, places-long C D n);
     links = omega (arith, L .rules .few-links, links-long F T k);
-    rows = L .few-rows;
     windows = L .few;
     chained = L .chained;
     to-on = λ j h. let l = links-long F T k in omega (arith, L .rules .to-on j (omega arith), ap (λ (x : Link). x .to) (link-in F T k j h), places-long C D n);
@@ -94,5 +93,5 @@ module _ {C D F T H N : List ℕ} {n k : ℕ} {rows : List Row} {c : ℕ} {P S E
   lanes-later = later Y rows m (spanAt P S E) (L .windows) (yard .long)
 
 -- crossings may be looked up by place in the arrays that hold the rows
-pub lanes-by-place : {C D F T H L : List ℕ} {n k : ℕ} {K X N : List ℕ} {c : ℕ} {P S E I : List ℕ} {m : ℕ} → Lanes C D F T H L n k (rowsIn K X N c) c P S E I m → ByPlace K X N c
-lanes-by-place {K = K} {X} {N} {c} A = booked-by-place K X N c (A .few-rows) (A .booked)
+pub lanes-by-place : {C D F T H L : List ℕ} {n k : ℕ} {K X : List ℕ} {c : ℕ} {P S E I : List ℕ} {m : ℕ} → Lanes C D F T H L n k (rowsIn K X c) c P S E I m → ByPlace K X c
+lanes-by-place {K = K} {X} {c} A = booked-by-place K X c (A .few-rows) (A .booked)

@@ -20,11 +20,10 @@ use Rattle.settle.specs.Search.{Through, In, in-or-out, through-none, through-s
 use Rattle.search.specs.Entries.{IsEntry}
 use Rattle.search.specs.Offers.{Row1, Entries, Labels, OfferedTo, through-join}
 
--- what stays the same during a search: n places, k links chained by place, c rows, m windows by place
-pub record Ground (n k c m : ℕ) (D F T H N P S E I : List ℕ) : Type 0 where
+-- what stays the same during a search: n places, k links chained by place, m windows by place
+pub record Ground (n k m : ℕ) (D F T H N P S E I : List ℕ) : Type 0 where
   pub places : n ≤ 256
   pub links : k ≤ 1024
-  pub rows : c ≤ 1024
   pub windows : m ≤ 1280
   pub chained : Chained F k H N
   pub to-on : (j : ℕ) → j < k → at T j < n
@@ -70,7 +69,7 @@ pub record AlongLinks (rows : List Row) (n k m : ℕ) (D F T P S E : List ℕ) (
   pub labels : Labels lab′ op′ bef′
   pub blocks : Blocks op′ le′
 
-module _ (rows : List Row) {n k c m : ℕ} {D F T H N P S E I : List ℕ} (G : Ground n k c m D F T H N P S E I) {u p : ℕ} (uh : u < m) (up : at P u ≡ p) where
+module _ (rows : List Row) {n k m : ℕ} {D F T H N P S E I : List ℕ} (G : Ground n k m D F T H N P S E I) {u p : ℕ} (uh : u < m) (up : at P u ≡ p) where
   on-map : p < n
   on-map = let h = group-place (G .by-place) u uh in omega arith
 

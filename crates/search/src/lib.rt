@@ -47,24 +47,23 @@ fn sooner(a: u32, b: u32) -> u32
 // The least second of lo to hi at which the crossing is not barred, 86,401 where there is none.
 fn first_entry(
     key: &[u64; 1024],
-    exit: &[u32; 1024],
-    next: &[u8; 1024],
+    tail: &[u32; 1024],
     n: usize,
     q: u8,
     p: u8,
     lo: u32,
     hi: u32,
 ) -> u32
-    requires { ⌜ Between (now key) (now exit) (now next) n q p ⌝ }
+    requires { ⌜ Between (now key) (now tail) n q p ⌝ }
     requires { ⌜ hi ≤ 86400 ⌝ }
-    ensures { λ r. ⌜ FirstClear (rowsIn (now (key .entry)) (now (exit .entry)) (now (next .entry)) n) q p lo hi r ⌝ }
+    ensures { λ r. ⌜ FirstClear (rowsIn (now (key .entry)) (now (tail .entry)) n) q p lo hi r ⌝ }
 {
     let mut t = lo;
     'window: loop {
         if t > hi {
             break 'window 86401;
         }
-        if !lookup::barred(key, exit, next, n, q, p, t) {
+        if !lookup::barred(key, tail, n, q, p, t) {
             break t;
         }
         t += 1;
@@ -74,8 +73,7 @@ fn first_entry(
 // Window v, to be entered from lo to hi, offered the way through w.
 fn try_window(
     key: &[u64; 1024],
-    exit: &[u32; 1024],
-    next: &[u8; 1024],
+    tail: &[u32; 1024],
     n: usize,
     q: u8,
     p: u8,
@@ -88,15 +86,15 @@ fn try_window(
     least: &mut [u32; 40],
     before: &mut [u16; 1280],
 )
-    requires { ⌜ Between (now key) (now exit) (now next) n q p ⌝ }
+    requires { ⌜ Between (now key) (now tail) n q p ⌝ }
     requires { ⌜ hi ≤ 86400 ⌝ }
     requires { ⌜ (v < 1280) × (w < 1280) ⌝ }
     requires { ⌜ Labels (now label) (now live) (now before) ⌝ }
     requires { ⌜ Blocks (now live) (now least) ⌝ }
-    ensures { λ _. ⌜ Tried (rowsIn (now (key .entry)) (now (exit .entry)) (now (next .entry)) n) q p lo hi v w (now (label .entry)) (now (live .entry)) (now (before .entry)) (now (label .exit)) (now (live .exit)) (now (before .exit)) × (Labels (now (label .exit)) (now (live .exit)) (now (before .exit)) × Blocks (now (live .exit)) (now (least .exit))) ⌝ }
+    ensures { λ _. ⌜ Tried (rowsIn (now (key .entry)) (now (tail .entry)) n) q p lo hi v w (now (label .entry)) (now (live .entry)) (now (before .entry)) (now (label .exit)) (now (live .exit)) (now (before .exit)) × (Labels (now (label .exit)) (now (live .exit)) (now (before .exit)) × Blocks (now (live .exit)) (now (least .exit))) ⌝ }
 {
     if lo < label[v] {
-        let t = first_entry(key, exit, next, n, q, p, lo, hi);
+        let t = first_entry(key, tail, n, q, p, lo, hi);
         settle::offer(label, live, least, before, v, w, t);
     }
 }
@@ -125,8 +123,7 @@ fn relax_place(
     start: &[u32; 1280],
     end: &[u32; 1280],
     key: &[u64; 1024],
-    exit: &[u32; 1024],
-    next: &[u8; 1024],
+    tail: &[u32; 1024],
     n: usize,
     a: usize,
     b: usize,
@@ -141,13 +138,13 @@ fn relax_place(
     least: &mut [u32; 40],
     before: &mut [u16; 1280],
 )
-    requires { ⌜ Between (now key) (now exit) (now next) n q p ⌝ }
+    requires { ⌜ Between (now key) (now tail) n q p ⌝ }
     requires { ⌜ (a ≤ b) × (b ≤ 1280) × (w < 1280) ⌝ }
     requires { ⌜ (d ≤ 3600) × (soonest ≤ 90000) × (leave ≤ 86400) ⌝ }
     requires { ⌜ Row1 (now start) (now end) a b d ⌝ }
     requires { ⌜ Labels (now label) (now live) (now before) ⌝ }
     requires { ⌜ Blocks (now live) (now least) ⌝ }
-    ensures { λ _. ⌜ OfferedTo (rowsIn (now (key .entry)) (now (exit .entry)) (now (next .entry)) n) q p soonest leave d (now (start .entry)) (now (end .entry)) a b w (now (label .entry)) (now (live .entry)) (now (before .entry)) b (now (label .exit)) (now (live .exit)) (now (before .exit)) × (Labels (now (label .exit)) (now (live .exit)) (now (before .exit)) × Blocks (now (live .exit)) (now (least .exit))) ⌝ }
+    ensures { λ _. ⌜ OfferedTo (rowsIn (now (key .entry)) (now (tail .entry)) n) q p soonest leave d (now (start .entry)) (now (end .entry)) a b w (now (label .entry)) (now (live .entry)) (now (before .entry)) b (now (label .exit)) (now (live .exit)) (now (before .exit)) × (Labels (now (label .exit)) (now (live .exit)) (now (before .exit)) × Blocks (now (live .exit)) (now (least .exit))) ⌝ }
 {
     let mut v = first_open(end, a, b, soonest + d);
     while v < b {
@@ -158,22 +155,7 @@ fn relax_place(
         let last = end[v] - d;
         let lo = later(soonest, from);
         let hi = sooner(leave, last);
-        try_window(
-            key,
-            exit,
-            next,
-            n,
-            q,
-            p,
-            lo,
-            hi,
-            v,
-            w,
-            label,
-            live,
-            least,
-            before,
-        );
+        try_window(key, tail, n, q, p, lo, hi, v, w, label, live, least, before);
         v += 1;
     }
 }
@@ -185,8 +167,7 @@ fn relax_link(
     start: &[u32; 1280],
     end: &[u32; 1280],
     key: &[u64; 1024],
-    exit: &[u32; 1024],
-    next: &[u8; 1024],
+    tail: &[u32; 1024],
     n: usize,
     q: u8,
     p: u8,
@@ -198,12 +179,12 @@ fn relax_link(
     least: &mut [u32; 40],
     before: &mut [u16; 1280],
 )
-    requires { ⌜ Between (now key) (now exit) (now next) n q p × (w < 1280) × (soonest ≤ 90000) × (leave ≤ 86400) ⌝ }
+    requires { ⌜ Between (now key) (now tail) n q p × (w < 1280) × (soonest ≤ 90000) × (leave ≤ 86400) ⌝ }
     requires { ⌜ (at (now first) q ≤ at (now first) (q + 1)) × (at (now first) (q + 1) ≤ 1280) × (at (now dur) q ≤ 3600) ⌝ }
     requires { ⌜ Row1 (now start) (now end) (at (now first) q) (at (now first) (q + 1)) (at (now dur) q) ⌝ }
     requires { ⌜ Labels (now label) (now live) (now before) ⌝ }
     requires { ⌜ Blocks (now live) (now least) ⌝ }
-    ensures { λ _. ⌜ OfferedTo (rowsIn (now (key .entry)) (now (exit .entry)) (now (next .entry)) n) q p soonest leave (at (now (dur .entry)) q) (now (start .entry)) (now (end .entry)) (at (now (first .entry)) q) (at (now (first .entry)) (q + 1)) w (now (label .entry)) (now (live .entry)) (now (before .entry)) (at (now (first .entry)) (q + 1)) (now (label .exit)) (now (live .exit)) (now (before .exit)) × (Labels (now (label .exit)) (now (live .exit)) (now (before .exit)) × Blocks (now (live .exit)) (now (least .exit))) ⌝ }
+    ensures { λ _. ⌜ OfferedTo (rowsIn (now (key .entry)) (now (tail .entry)) n) q p soonest leave (at (now (dur .entry)) q) (now (start .entry)) (now (end .entry)) (at (now (first .entry)) q) (at (now (first .entry)) (q + 1)) w (now (label .entry)) (now (live .entry)) (now (before .entry)) (at (now (first .entry)) (q + 1)) (now (label .exit)) (now (live .exit)) (now (before .exit)) × (Labels (now (label .exit)) (now (live .exit)) (now (before .exit)) × Blocks (now (live .exit)) (now (least .exit))) ⌝ }
 {
     let i = q as usize;
     let a = first[i] as usize;
@@ -213,8 +194,7 @@ fn relax_link(
         start,
         end,
         key,
-        exit,
-        next,
+        tail,
         n,
         a,
         b,
@@ -246,8 +226,7 @@ fn relax(
     end: &[u32; 1280],
     first: &[u16; 257],
     key: &[u64; 1024],
-    exit: &[u32; 1024],
-    next: &[u8; 1024],
+    tail: &[u32; 1024],
     n: usize,
     w: usize,
     label: &mut [u32; 1280],
@@ -255,11 +234,11 @@ fn relax(
     least: &mut [u32; 40],
     before: &mut [u16; 1280],
 )
-    requires { ⌜ Ground places links n windows (now dur) (now from) (now to) (now head) (now chain) (now place) (now start) (now end) (now first) ⌝ }
-    requires { ⌜ (w < windows) × (at (now label) w ≤ 86400) × ByPlace (now key) (now exit) (now next) n ⌝ }
+    requires { ⌜ Ground places links windows (now dur) (now from) (now to) (now head) (now chain) (now place) (now start) (now end) (now first) ⌝ }
+    requires { ⌜ (w < windows) × (at (now label) w ≤ 86400) × ByPlace (now key) (now tail) n ⌝ }
     requires { ⌜ Labels (now label) (now live) (now before) ⌝ }
     requires { ⌜ Blocks (now live) (now least) ⌝ }
-    ensures { λ _. ⌜ Relaxed (rowsIn (now (key .entry)) (now (exit .entry)) (now (next .entry)) n) places links windows (now (dur .entry)) (now (from .entry)) (now (to .entry)) (now (place .entry)) (now (start .entry)) (now (end .entry)) w (now (label .entry)) (now (live .entry)) (now (before .entry)) (now (label .exit)) (now (live .exit)) (now (before .exit)) × (Labels (now (label .exit)) (now (live .exit)) (now (before .exit)) × Blocks (now (live .exit)) (now (least .exit))) ⌝ }
+    ensures { λ _. ⌜ Relaxed (rowsIn (now (key .entry)) (now (tail .entry)) n) places links windows (now (dur .entry)) (now (from .entry)) (now (to .entry)) (now (place .entry)) (now (start .entry)) (now (end .entry)) w (now (label .entry)) (now (live .entry)) (now (before .entry)) (now (label .exit)) (now (live .exit)) (now (before .exit)) × (Labels (now (label .exit)) (now (live .exit)) (now (before .exit)) × Blocks (now (live .exit)) (now (least .exit))) ⌝ }
 {
     let p = place[w];
     let here = wide(p);
@@ -275,8 +254,7 @@ fn relax(
             start,
             end,
             key,
-            exit,
-            next,
+            tail,
             n,
             q,
             p,
@@ -308,8 +286,7 @@ pub fn search(
     end: &[u32; 1280],
     first: &[u16; 257],
     key: &[u64; 1024],
-    exit: &[u32; 1024],
-    next: &[u8; 1024],
+    tail: &[u32; 1024],
     n: usize,
     src: usize,
     s: u32,
@@ -317,12 +294,12 @@ pub fn search(
     label: &mut [u32; 1280],
     before: &mut [u16; 1280],
 ) -> usize
-    requires { ⌜ Lanes (now cap) (now dur) (now from) (now to) (now head) (now chain) places links (rowsIn (now key) (now exit) (now next) n) n (now place) (now start) (now end) (now first) windows ⌝ }
+    requires { ⌜ Lanes (now cap) (now dur) (now from) (now to) (now head) (now chain) places links (rowsIn (now key) (now tail) n) n (now place) (now start) (now end) (now first) windows ⌝ }
     requires { ⌜ (src < windows) × (s < 86401) ⌝ }
     requires { ⌜ ((v : ℕ) → v < 1280 → at (now label) v ≡ 86401) ⌝ }
     requires { ⌜ at (now before) src ≡ 0 ⌝ }
     requires { ⌜ (length (now label) ≡ 1280) × (length (now before) ≡ 1280) ⌝ }
-    ensures { λ r. ⌜ Answer windows (nextBy (yardIn (now (cap .entry)) (now (dur .entry)) places (now (from .entry)) (now (to .entry)) links) (rowsIn (now (key .entry)) (now (exit .entry)) (now (next .entry)) n) (now (place .entry)) (now (start .entry)) (now (end .entry))) (atDest (now (place .entry)) dest) src s (now (label .exit)) (now (before .exit)) r ⌝ }
+    ensures { λ r. ⌜ Answer windows (nextBy (yardIn (now (cap .entry)) (now (dur .entry)) places (now (from .entry)) (now (to .entry)) links) (rowsIn (now (key .entry)) (now (tail .entry)) n) (now (place .entry)) (now (start .entry)) (now (end .entry))) (atDest (now (place .entry)) dest) src s (now (label .exit)) (now (before .exit)) r ⌝ }
 {
     let blocks = (windows + 31) / 32;
     let mut live = [86401u32; 1280];
@@ -353,8 +330,7 @@ pub fn search(
             end,
             first,
             key,
-            exit,
-            next,
+            tail,
             n,
             w,
             label,

@@ -29,17 +29,17 @@ formed-booked R few W =
     }
 
 -- 1,282 for the map, 1,281 for the book, else the number of windows
-pub record Vetted (C D F T H L : List ℕ) (n k : ℕ) (K X N : List ℕ) (count t : ℕ) (P S E I : List ℕ) (r : ℕ) : Type 0 where
+pub record Vetted (C D F T H L : List ℕ) (n k : ℕ) (K X : List ℕ) (count t : ℕ) (P S E I : List ℕ) (r : ℕ) : Type 0 where
   pub bound : r ≤ 1282
   pub no-map : r ≡ 1282 → MapRules (placesIn C D n) (linksIn F T k) → ⊥
   pub map : r < 1282 → MapRules (placesIn C D n) (linksIn F T k)
-  pub no-book : r ≡ 1281 → WellFormed (yardIn C D n F T k) (rowsIn K X N count) t → ⊥
-  pub formed : r < 1281 → WellFormed (yardIn C D n F T k) (rowsIn K X N count) t
-  pub lanes : r < 1281 → Lanes C D F T H L n k (rowsIn K X N count) count P S E I r
+  pub no-book : r ≡ 1281 → WellFormed (yardIn C D n F T k) (rowsIn K X count) t → ⊥
+  pub formed : r < 1281 → WellFormed (yardIn C D n F T k) (rowsIn K X count) t
+  pub lanes : r < 1281 → Lanes C D F T H L n k (rowsIn K X count) count P S E I r
 
 module _ {C D F T H L : List ℕ} {n k : ℕ} {b : Bool} (M : MapFits n k C D F T H L b) where
-  pub vet-map : (K X N : List ℕ) (count t : ℕ) (P S E I : List ℕ) → b ≡ false → Vetted C D F T H L n k K X N count t P S E I 1282
-  vet-map K X N count t P S E I e = record {
+  pub vet-map : (K X : List ℕ) (count t : ℕ) (P S E I : List ℕ) → b ≡ false → Vetted C D F T H L n k K X count t P S E I 1282
+  vet-map K X count t P S E I e = record {
     bound = omega arith;
     no-map = λ _ R. not-both (M .all R) e;
     map = λ h. absurd (omega arith);
@@ -48,8 +48,8 @@ module _ {C D F T H L : List ℕ} {n k : ℕ} {b : Bool} (M : MapFits n k C D F 
     lanes = λ h. absurd (omega arith);
   }
 
-  pub vet-book : {K X N : List ℕ} {count t r : ℕ} {Q S E P I : List ℕ} → b ≡ true → BookFits C D n F T k K X N count t r Q S E P I → Vetted C D F T H L n k K X N count t P S E I r
-  vet-book {K} {X} {N} {count} e B = record {
+  pub vet-book : {K X : List ℕ} {count t r : ℕ} {S E P I : List ℕ} → b ≡ true → BookFits C D n F T k K X count t r S E P I → Vetted C D F T H L n k K X count t P S E I r
+  vet-book {K} {X} {count} e B = record {
     bound = omega (arith, B .bound);
     no-map = λ h. absurd (omega (arith, B .bound));
     map = λ _. M .kept e;
@@ -58,7 +58,7 @@ module _ {C D F T H L : List ℕ} {n k : ℕ} {b : Bool} (M : MapFits n k C D F 
     lanes = λ h. record {
       rules = M .kept e;
       chained = M .chained e;
-      few-rows = omega (arith, B .formed h .few, rows-long K X N count);
+      few-rows = omega (arith, B .formed h .few, rows-long K X count);
       booked = formed-booked (yard-rules (M .kept e)) (M .kept e .few) (B .formed h);
       windows = B .windows h;
       by-place = B .by-place h;

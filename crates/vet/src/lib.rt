@@ -19,8 +19,7 @@ pub fn vet(
     count: usize,
     next_ticket: u32,
     key: &[u64; 1024],
-    exit: &[u32; 1024],
-    next: &[u8; 1024],
+    tail: &[u32; 1024],
     start: &mut [u32; 1280],
     end: &mut [u32; 1280],
     place: &mut [u8; 1280],
@@ -28,14 +27,13 @@ pub fn vet(
 ) -> usize
     requires { ⌜ (length (now head) ≡ 256) × (length (now chain) ≡ 1024) ⌝ }
     requires { ⌜ ((p : ℕ) → at (now head) p ≡ 0) ⌝ }
-    requires { ⌜ Packed (now key) (now exit) ⌝ }
+    requires { ⌜ Packed (now key) ⌝ }
     requires { ⌜ (length (now start) ≡ 1280) × (length (now end) ≡ 1280) × (length (now place) ≡ 1280) × (length (now first) ≡ 257) ⌝ }
-    ensures { λ r. ⌜ Vetted (now (cap .entry)) (now (dur .entry)) (now (from .entry)) (now (to .entry)) (now (head .exit)) (now (chain .exit)) n k (now (key .entry)) (now (exit .entry)) (now (next .entry)) count «next_ticket» (now (place .exit)) (now (start .exit)) (now (end .exit)) (now (first .exit)) r ⌝ }
+    ensures { λ r. ⌜ Vetted (now (cap .entry)) (now (dur .entry)) (now (from .entry)) (now (to .entry)) (now (head .exit)) (now (chain .exit)) n k (now (key .entry)) (now (tail .entry)) count «next_ticket» (now (place .exit)) (now (start .exit)) (now (end .exit)) (now (first .exit)) r ⌝ }
 {
     if !mapfit::map_fits(n, k, cap, dur, from, to, head, chain) {
         return 1282;
     }
-    let mut rows = [0u16; 257];
     bookfit::book_fits(
         n,
         k,
@@ -48,9 +46,7 @@ pub fn vet(
         count,
         next_ticket,
         key,
-        exit,
-        next,
-        &mut rows,
+        tail,
         start,
         end,
         place,

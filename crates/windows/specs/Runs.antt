@@ -9,7 +9,7 @@ use Rattle.laws.specs.Order.{lt-or-ge}
 use Rattle.laws.specs.Lists.{at, tabulate}
 use Rattle.rules.specs.declared.Row.{Row}
 use Rattle.rules.specs.Rows.{covers, bit, load}
-use Rattle.flat.specs.Flat.{placeOf, entryOf, rowOf, rowsIn}
+use Rattle.flat.specs.Flat.{placeOf, entryOf, exitOf, rowOf, rowsIn}
 use Rattle.windows.specs.Sums.{sum, sum-first, sum-same, sum-run}
 use Rattle.windows.specs.Sweep.{covered, loadTo, entriesFrom, exitsFrom, runLoad, InOrder}
 use Rattle.windows.specs.Places.{Past, Given}
@@ -78,16 +78,16 @@ module _ {n count : ℕ} {C D K X : List ℕ} (G : Given n count C D K X) {p a b
 
 -- how many of the first count rows cover second t of place p
 unfoldable pub loadAt : List ℕ → List ℕ → ℕ → ℕ → ℕ → ℕ
-loadAt K X count p t = sum (λ i. bit (covers (placeOf (at K i)) (entryOf (at K i)) (at X i) p t)) count
+loadAt K X count p t = sum (λ i. bit (covers (placeOf (at K i)) (entryOf (at K i)) (exitOf (at X i)) p t)) count
 
 load-tabulate : (f : ℕ → Row) (count p t : ℕ) → load (tabulate count f) p t ≡ sum (λ i. bit (covers ((f i) .place) ((f i) .entry) ((f i) .exit) p t)) count
 unfolding load tabulate sum
 load-tabulate f zero p t = refl
 load-tabulate f (suc n) p t = omega (arith, load-tabulate (λ i. f (suc i)) n p t, sum-first (λ i. bit (covers ((f i) .place) ((f i) .entry) ((f i) .exit) p t)) n)
 
-pub load-rows : (K X N : List ℕ) (count p t : ℕ) → load (rowsIn K X N count) p t ≡ loadAt K X count p t
+pub load-rows : (K X : List ℕ) (count p t : ℕ) → load (rowsIn K X count) p t ≡ loadAt K X count p t
 unfolding loadAt
-load-rows K X N count p t = load-tabulate (λ i. rowOf (at K i) (at X i) (at N i)) count p t
+load-rows K X count p t = load-tabulate (λ i. rowOf (at K i) (at X i)) count p t
 
 covers-other : (q e x p t : ℕ) → (q ≡ p → ⊥) → bit (covers q e x p t) ≡ 0
 unfolding covers
@@ -101,6 +101,6 @@ covers-here q e x p t h = rw (eq-eqb q p h)
 pub load-run : {K : List ℕ} (X : List ℕ) {count p a b : ℕ} → Run K count p a b → (t : ℕ) → loadAt K X count p t ≡ runLoad K X a b t
 unfolding loadAt loadTo
 load-run {K} X {count} {p} {a} {b} R t =
-    let f : ℕ → ℕ = λ i. bit (covers (placeOf (at K i)) (entryOf (at K i)) (at X i) p t) in
+    let f : ℕ → ℕ = λ i. bit (covers (placeOf (at K i)) (entryOf (at K i)) (exitOf (at X i)) p t) in
     sum-run f a b count (R .up) (R .within) (λ i l. covers-other _ _ _ p t (λ e. omega (arith, R .under i l))) (λ i l m. covers-other _ _ _ p t (λ e. omega (arith, R .beyond i l m)))
     ∙ sum-same (λ i. f (a + i)) (λ i. covered (entriesFrom K a i) (exitsFrom X a i) t) (b - a) (λ i l. covers-here _ _ _ p t (R .inside (a + i) (omega arith) (omega arith)))

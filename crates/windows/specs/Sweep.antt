@@ -10,7 +10,7 @@ use Rattle.laws.specs.Lists.{at}
 use Rattle.rules.specs.Limits.{day}
 use Rattle.rules.specs.Rows.{bit}
 use Rattle.rules.specs.Window.{Span}
-use Rattle.flat.specs.Flat.{entryOf, spanAt}
+use Rattle.flat.specs.Flat.{entryOf, exitOf, spanAt}
 use Rattle.windows.specs.Sums.{sum}
 
 -- a longest stretch a to b of the day, at least d long, where the load L is below c
@@ -34,7 +34,7 @@ abbrev pub entriesFrom : List ℕ → ℕ → ℕ → ℕ
 entriesFrom K a i = entryOf (at K (a + i))
 
 abbrev pub exitsFrom : List ℕ → ℕ → ℕ → ℕ
-exitsFrom X a i = at X (a + i)
+exitsFrom X a i = exitOf (at X (a + i))
 
 -- how many of the rows a .. b - 1 cover second t
 abbrev pub runLoad : List ℕ → List ℕ → ℕ → ℕ → ℕ → ℕ

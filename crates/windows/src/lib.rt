@@ -10,13 +10,13 @@ ghost use Rattle.windows.specs.Places.{Past, Given, AllWindows};
 fn place_of(k: u64) -> usize
     ensures { λ r. ⌜ r ≡ placeOf k ⌝ }
 {
-    (k / 281474976710656) as usize
+    (k / flat::PLACE) as usize
 }
 
 fn entry_of(k: u64) -> u32
     ensures { λ r. ⌜ r ≡ entryOf k ⌝ }
 {
-    (k / 16777216 % 16777216) as u32
+    (k / flat::SECOND % flat::SECOND) as u32
 }
 
 // where the least of the first c kept exits is
@@ -40,7 +40,7 @@ fn least_at(top: &[u32; 16], c: usize) -> usize
 // `top` keeps the exits of the rows inside; there is room from second `free` on.
 fn sweep(
     key: &[u64; 1024],
-    exit: &[u32; 1024],
+    tail: &[u32; 1024],
     a: usize,
     b: usize,
     c: usize,
@@ -51,11 +51,11 @@ fn sweep(
     end: &mut [u32; 1280],
     place: &mut [u8; 1280],
 ) -> usize
-    requires { ⌜ Sweepable (now key) (now exit) a b c d from ⌝ }
+    requires { ⌜ Sweepable (now key) (now tail) a b c d from ⌝ }
     requires { ⌜ length (now start) ≡ 1280 ⌝ }
     requires { ⌜ length (now end) ≡ 1280 ⌝ }
     requires { ⌜ length (now place) ≡ 1280 ⌝ }
-    ensures { λ r. ⌜ Sweep (runLoad (now (key .entry)) (now (exit .entry)) a b) c d p from (b - a) (spanAt (now (place .entry)) (now (start .entry)) (now (end .entry))) r (now (start .exit)) (now (end .exit)) (now (place .exit)) ⌝ }
+    ensures { λ r. ⌜ Sweep (runLoad (now (key .entry)) (now (tail .entry)) a b) c d p from (b - a) (spanAt (now (place .entry)) (now (start .entry)) (now (end .entry))) r (now (start .exit)) (now (end .exit)) (now (place .exit)) ⌝ }
 {
     let n = b - a;
     let mut top = [0u32; 16];
@@ -68,7 +68,7 @@ fn sweep(
         if t < top[low] {
             return 1281;
         }
-        top[low] = exit[a + i];
+        top[low] = flat::exit_of(tail[a + i]);
         low = least_at(&top, c);
         let u = top[low];
         if t < u {
@@ -107,30 +107,26 @@ fn past(key: &[u64; 1024], count: usize, a: usize, p: usize) -> usize
     i
 }
 
-// The free windows of the places 0 .. n, place after place, and the first row and first window of each: the number of windows, 1,281 where a
-// place is overfull.
+// The free windows of the places 0 .. n, place after place, and the first window of each: the number of windows, 1,281 where a place is overfull.
 pub fn all_windows(
     n: usize,
     count: usize,
     cap: &[u8; 256],
     dur: &[u32; 256],
     key: &[u64; 1024],
-    exit: &[u32; 1024],
-    rows: &mut [u16; 257],
+    tail: &[u32; 1024],
     start: &mut [u32; 1280],
     end: &mut [u32; 1280],
     place: &mut [u8; 1280],
     first: &mut [u16; 257],
 ) -> usize
-    requires { ⌜ Given n count (now cap) (now dur) (now key) (now exit) ⌝ }
-    requires { ⌜ length (now rows) ≡ 257 ⌝ }
+    requires { ⌜ Given n count (now cap) (now dur) (now key) (now tail) ⌝ }
     requires { ⌜ length (now start) ≡ 1280 ⌝ }
     requires { ⌜ length (now end) ≡ 1280 ⌝ }
     requires { ⌜ length (now place) ≡ 1280 ⌝ }
     requires { ⌜ length (now first) ≡ 257 ⌝ }
-    ensures { λ r. ⌜ AllWindows n count (now (cap .entry)) (now (dur .entry)) (now (key .entry)) (now (exit .entry)) r (now (rows .exit)) (now (start .exit)) (now (end .exit)) (now (place .exit)) (now (first .exit)) ⌝ }
+    ensures { λ r. ⌜ AllWindows n count (now (cap .entry)) (now (dur .entry)) (now (key .entry)) (now (tail .entry)) r (now (start .exit)) (now (end .exit)) (now (place .exit)) (now (first .exit)) ⌝ }
 {
-    rows[0] = 0;
     first[0] = 0;
     let mut a: usize = 0;
     let mut w: usize = 0;
@@ -139,14 +135,13 @@ pub fn all_windows(
         let b = past(key, count, a, p);
         let c = cap[p] as usize;
         let d = dur[p];
-        let r = sweep(key, exit, a, b, c, d, p as u8, w, start, end, place);
+        let r = sweep(key, tail, a, b, c, d, p as u8, w, start, end, place);
         if r == 1281 {
             return 1281;
         }
         a = b;
         w = r;
         p += 1;
-        rows[p] = b as u16;
         first[p] = r as u16;
     }
     w

@@ -12,7 +12,7 @@ use Rattle.laws.specs.Lists.{at, tabulate}
 use Rattle.rules.specs.declared.Place.{Place}
 use Rattle.rules.specs.declared.Link.{Link}
 use Rattle.rules.specs.Portal.{byteAt, num2, num3, placesFrom, linksFrom, rowIn, rowsFrom}
-use Rattle.flat.specs.Flat.{placesIn, linksIn, rowsIn, rowOf, placeOf, entryOf, ticketOf, Packed}
+use Rattle.flat.specs.Flat.{placesIn, linksIn, rowsIn, rowOf, placeOf, entryOf, ticketOf, exitOf, nextOf, Packed}
 use Rattle.wire.specs.Tables.{tabulate-same}
 
 -- ---- the lists that the bytes stand for, by index
@@ -131,20 +131,23 @@ pub record KeyRead (s : List ℕ) (at key : ℕ) : Type 0 where
   pub ticket : ticketOf key ≡ num3 s (at + 4)
   pub small : key < 72057594037927936
 
-pub record RowsRead (s : List ℕ) (j : ℕ) (K X N : List ℕ) : Type 0 where
-  pub rows : (i : ℕ) → i < j → rowOf (at K i) (at X i) (at N i) ≡ rowIn s (5 + 11 * i)
-  pub packed : Packed K X
-  pub len-key : length K ≡ 1024
-  pub len-exit : length X ≡ 1024
-  pub len-next : length N ≡ 1024
+-- a tail read from a row's last four bytes
+pub record TailRead (s : List ℕ) (at tail : ℕ) : Type 0 where
+  pub exit : exitOf tail ≡ num3 s (at + 7)
+  pub next : nextOf tail ≡ byteAt s (at + 10)
 
-pub no-rows : (s K X N : List ℕ) → length K ≡ 1024 → length X ≡ 1024 → length N ≡ 1024 → ((i : ℕ) → at K i ≡ 0) → ((i : ℕ) → at X i ≡ 0) → RowsRead s 0 K X N
-no-rows s K X N a b c zk zx = record {
+pub record RowsRead (s : List ℕ) (j : ℕ) (K X : List ℕ) : Type 0 where
+  pub rows : (i : ℕ) → i < j → rowOf (at K i) (at X i) ≡ rowIn s (5 + 11 * i)
+  pub packed : Packed K
+  pub len-key : length K ≡ 1024
+  pub len-tail : length X ≡ 1024
+
+pub no-rows : (s K X : List ℕ) → length K ≡ 1024 → length X ≡ 1024 → ((i : ℕ) → at K i ≡ 0) → RowsRead s 0 K X
+no-rows s K X a b zk = record {
   rows = λ i h. absurd (omega arith);
-  packed = record { keys = λ i. omega (arith, zk i); exits = λ i. omega (arith, zx i) };
+  packed = record { keys = λ i. omega (arith, zk i) };
   len-key = a;
-  len-exit = b;
-  len-next = c;
+  len-tail = b;
 }
 
 below-set : (l : List ℕ) (j v m : ℕ) → j < length l → v < m → ((i : ℕ) → at l i < m) → (i : ℕ) → at (set l j v) i < m
@@ -153,42 +156,34 @@ below-set l j v m h k old i =
     (λ (q : i ≡ j → ⊥). let e : at (set l j v) i ≡ at l i = getD-set-other l j i v 0 q in omega (arith, old i))
     (eq-or-ne i j)
 
-pub row-read : {s : List ℕ} {j : ℕ} {K X N : List ℕ} (k x n : ℕ) → RowsRead s j K X N → j < 1024 → KeyRead s (5 + 11 * j) k
-    → x ≡ num3 s (5 + 11 * j + 7) → x < 16777216 → n ≡ byteAt s (5 + 11 * j + 10)
-    → RowsRead s (j + 1) (set K j k) (set X j x) (set N j n)
-row-read {s} {j} {K} {X} {N} k x n R h Q ex hx en = record {
+pub row-read : {s : List ℕ} {j : ℕ} {K X : List ℕ} (k x : ℕ) → RowsRead s j K X → j < 1024 → KeyRead s (5 + 11 * j) k → TailRead s (5 + 11 * j) x
+    → RowsRead s (j + 1) (set K j k) (set X j x)
+row-read {s} {j} {K} {X} k x R h Q T = record {
   rows = λ i g. ⊎-elim
       (λ (q : i ≡ j).
       let a : at (set K j k) i ≡ k = ap (at (set K j k)) q ∙ getD-set-same K j k 0 (omega (arith, R .len-key)) in
-      let b : at (set X j x) i ≡ x = ap (at (set X j x)) q ∙ getD-set-same X j x 0 (omega (arith, R .len-exit)) in
-      let c : at (set N j n) i ≡ n = ap (at (set N j n)) q ∙ getD-set-same N j n 0 (omega (arith, R .len-next)) in
-      let here : rowOf k x n ≡ rowIn s (5 + 11 * j) = λ y. record { place = Q .place y; entry = Q .entry y; ticket = Q .ticket y; exit = ex y; next = en y } in
-      rw (a, b, c) (here ∙ ap (λ (m : ℕ). rowIn s (5 + 11 * m)) (sym q)))
+      let b : at (set X j x) i ≡ x = ap (at (set X j x)) q ∙ getD-set-same X j x 0 (omega (arith, R .len-tail)) in
+      let here : rowOf k x ≡ rowIn s (5 + 11 * j) = λ y. record { place = Q .place y; entry = Q .entry y; ticket = Q .ticket y; exit = T .exit y; next = T .next y } in
+      rw (a, b) (here ∙ ap (λ (m : ℕ). rowIn s (5 + 11 * m)) (sym q)))
       (λ (q : i ≡ j → ⊥).
-      rw (getD-set-other K j i k 0 q, getD-set-other X j i x 0 q, getD-set-other N j i n 0 q) (R .rows i (omega arith)))
+      rw (getD-set-other K j i k 0 q, getD-set-other X j i x 0 q) (R .rows i (omega arith)))
       (eq-or-ne i j);
-  packed = record {
-    keys = below-set K j k 72057594037927936 (omega (arith, R .len-key)) (Q .small) (R .packed .keys);
-    exits = below-set X j x 16777216 (omega (arith, R .len-exit)) hx (R .packed .exits);
-  };
+  packed = record { keys = below-set K j k 72057594037927936 (omega (arith, R .len-key)) (Q .small) (R .packed .keys) };
   len-key = length-set K j k ∙ R .len-key;
-  len-exit = length-set X j x ∙ R .len-exit;
-  len-next = length-set N j n ∙ R .len-next;
+  len-tail = length-set X j x ∙ R .len-tail;
 }
 
 -- the rows of the slice, packed, and the arrays' lengths
-pub record RowsOf (s : List ℕ) (count : ℕ) (K X N : List ℕ) : Type 0 where
-  pub are : rowsIn K X N count ≡ rowsFrom s 5 count
-  pub packed : Packed K X
+pub record RowsOf (s : List ℕ) (count : ℕ) (K X : List ℕ) : Type 0 where
+  pub are : rowsIn K X count ≡ rowsFrom s 5 count
+  pub packed : Packed K
   pub len-key : length K ≡ 1024
-  pub len-exit : length X ≡ 1024
-  pub len-next : length N ≡ 1024
+  pub len-tail : length X ≡ 1024
 
-pub all-rows : {s : List ℕ} {count : ℕ} {K X N : List ℕ} → RowsRead s count K X N → RowsOf s count K X N
-all-rows {s} {count} {K} {X} {N} R = record {
-  are = tabulate-same count (λ i. rowOf (at K i) (at X i) (at N i)) (λ i. rowIn s (5 + 11 * i)) (R .rows) ∙ sym (rows-table s 5 count);
+pub all-rows : {s : List ℕ} {count : ℕ} {K X : List ℕ} → RowsRead s count K X → RowsOf s count K X
+all-rows {s} {count} {K} {X} R = record {
+  are = tabulate-same count (λ i. rowOf (at K i) (at X i)) (λ i. rowIn s (5 + 11 * i)) (R .rows) ∙ sym (rows-table s 5 count);
   packed = R .packed;
   len-key = R .len-key;
-  len-exit = R .len-exit;
-  len-next = R .len-next;
+  len-tail = R .len-tail;
 }

@@ -79,6 +79,6 @@ pub book-shape : {Y : Yard} {s : List ℕ} → BookSlice Y s → BookShape s
 book-shape {Y} {s} B = record { counts = B .counts; fits = B .fits; few = omega (arith, B .formed .few, rows-count s 5 (num2 s 3)) }
 
 -- the arrays read from the slice, count rows of them
-module _ {s K X N : List ℕ} {count : ℕ} (R : RowsOf s count K X N) (is-count : count ≡ num2 s 3) where
-  pub slice-rows : rowsIn K X N count ≡ sliceRows s
+module _ {s K X : List ℕ} {count : ℕ} (R : RowsOf s count K X) (is-count : count ≡ num2 s 3) where
+  pub slice-rows : rowsIn K X count ≡ sliceRows s
   slice-rows = R .are ∙ ap (rowsFrom s 5) is-count

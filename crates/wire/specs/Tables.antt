@@ -42,8 +42,8 @@ module _ {A : Type 0} where
       ∙ tabulate-same n (λ i. f (suc (from + i))) (λ i. f (suc from + i)) (λ i k. let e : suc (from + i) ≡ suc from + i = omega arith in ap f e)
 
 -- the n rows of the arrays from an index on
-abbrev pub rowsFor : List ℕ → List ℕ → List ℕ → ℕ → ℕ → List Row
-rowsFor K X N from n = tabulate n (λ i. rowOf (at K (from + i)) (at X (from + i)) (at N (from + i)))
+abbrev pub rowsFor : List ℕ → List ℕ → ℕ → ℕ → List Row
+rowsFor K X from n = tabulate n (λ i. rowOf (at K (from + i)) (at X (from + i)))
 
-pub rows-for : (K X N : List ℕ) (from n count : ℕ) → from + n ≤ count → rowsFor K X N from n ≡ take n (drop from (rowsIn K X N count))
-rows-for K X N from n count h = sym (run-tabulate from n count (λ i. rowOf (at K i) (at X i) (at N i)) h)
+pub rows-for : (K X : List ℕ) (from n count : ℕ) → from + n ≤ count → rowsFor K X from n ≡ take n (drop from (rowsIn K X count))
+rows-for K X from n count h = sym (run-tabulate from n count (λ i. rowOf (at K i) (at X i)) h)

@@ -85,18 +85,18 @@ put-at-is r j was p h e n =
 
 -- ---- a run of rows copied from the arrays: the first j of it are written
 
-pub record Copied (K X N : List ℕ) (from j : ℕ) (was out : List ℕ) : Type 0 where
-  pub rows : out ≡ written (rowsFor K X N from j) was
+pub record Copied (K X : List ℕ) (from j : ℕ) (was out : List ℕ) : Type 0 where
+  pub rows : out ≡ written (rowsFor K X from j) was
   pub long : length out ≡ length was
 
-pub copied-start : (K X N : List ℕ) (from : ℕ) (was : List ℕ) → Copied K X N from 0 was was
+pub copied-start : (K X : List ℕ) (from : ℕ) (was : List ℕ) → Copied K X from 0 was was
 unfolding tabulate
-copied-start K X N from was = record { rows = written-start was; long = refl }
+copied-start K X from was = record { rows = written-start was; long = refl }
 
-pub copied-next : {K X N : List ℕ} {from j : ℕ} {was out out′ : List ℕ} {r : Row} → Copied K X N from j was out
-    → r ≡ rowOf (at K (from + j)) (at X (from + j)) (at N (from + j)) → PutAt r j out out′ → Copied K X N from (j + 1) was out′
-copied-next {K} {X} {N} {from} {j} {was} {out} {out′} {r} C e P =
-    let f : ℕ → Row = λ i. rowOf (at K (from + i)) (at X (from + i)) (at N (from + i)) in
+pub copied-next : {K X : List ℕ} {from j : ℕ} {was out out′ : List ℕ} {r : Row} → Copied K X from j was out
+    → r ≡ rowOf (at K (from + j)) (at X (from + j)) → PutAt r j out out′ → Copied K X from (j + 1) was out′
+copied-next {K} {X} {from} {j} {was} {out} {out′} {r} C e P =
+    let f : ℕ → Row = λ i. rowOf (at K (from + i)) (at X (from + i)) in
     record {
       rows = written-next (tabulate j f) was P (length-tabulate j f) (C .rows)
           ∙ ap (λ (l : List Row). written l was) (ap (λ (x : Row). tabulate j f ++ (x ∷ [])) e ∙ sym (tabulate-snoc j f));

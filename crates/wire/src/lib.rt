@@ -8,10 +8,10 @@ ghost use lib.ListN.{length, drop};
 ghost use Rattle.laws.specs.Lists.{at};
 ghost use Rattle.rules.specs.Answer.{rowBytes, written};
 ghost use Rattle.rules.specs.Portal.{num2, num3};
-ghost use Rattle.flat.specs.Flat.{rowOf, Packed};
+ghost use Rattle.flat.specs.Flat.{rowOf, keyLimit, fieldLimit, Packed};
 ghost use Rattle.wire.specs.Tables.{rowsFor};
 ghost use Rattle.wire.specs.Written.{PutAt};
-ghost use Rattle.wire.specs.Reading.{KeyRead, PlacesOf, LinksOf, RowsOf};
+ghost use Rattle.wire.specs.Reading.{KeyRead, TailRead, PlacesOf, LinksOf, RowsOf};
 ghost use Rattle.wire.specs.Slices.{MapShape, BookShape};
 
 // A row over the first 11 bytes of a slice.
@@ -42,38 +42,34 @@ pub fn put_at(r: Row, j: usize, out: &mut [u8])
 }
 
 // The row at an index of the arrays.
-pub fn row_at(key: &[u64; 1024], exit: &[u32; 1024], next: &[u8; 1024], i: usize) -> Row
+pub fn row_at(key: &[u64; 1024], tail: &[u32; 1024], i: usize) -> Row
     requires { ⌜ i < 1024 ⌝ }
-    requires { ⌜ at (now key) i < 72057594037927936 ⌝ }
-    ensures { λ r. ⌜ r ≡ rowOf (at (now (key .entry)) i) (at (now (exit .entry)) i) (at (now (next .entry)) i) ⌝ }
+    requires { ⌜ at (now key) i < keyLimit ⌝ }
+    ensures { λ r. ⌜ r ≡ rowOf (at (now (key .entry)) i) (at (now (tail .entry)) i) ⌝ }
 {
     let k = key[i];
+    let x = tail[i];
+    let entry = (k / flat::SECOND % flat::SECOND) as u32;
+    let ticket = (k % flat::SECOND) as u32;
     Row {
-        place: (k / 281474976710656) as u8,
-        entry: (k / 16777216 % 16777216) as u32,
-        ticket: (k % 16777216) as u32,
-        exit: exit[i],
-        next: next[i],
+        place: flat::place_of(k),
+        entry: entry,
+        ticket: ticket,
+        exit: flat::exit_of(x),
+        next: flat::next_of(x),
     }
 }
 
 // The n rows of the arrays from an index on, as records.
-pub fn copy_rows(
-    key: &[u64; 1024],
-    exit: &[u32; 1024],
-    next: &[u8; 1024],
-    from: usize,
-    n: usize,
-    out: &mut [u8],
-)
+pub fn copy_rows(key: &[u64; 1024], tail: &[u32; 1024], from: usize, n: usize, out: &mut [u8])
     requires { ⌜ from + n ≤ 1024 ⌝ }
     requires { ⌜ 11 * n ≤ length (now out) ⌝ }
-    requires { ⌜ Packed (now key) (now exit) ⌝ }
-    ensures { λ _. ⌜ now (out .exit) ≡ written (rowsFor (now (key .entry)) (now (exit .entry)) (now (next .entry)) from n) (now (out .entry)) ⌝ }
+    requires { ⌜ Packed (now key) ⌝ }
+    ensures { λ _. ⌜ now (out .exit) ≡ written (rowsFor (now (key .entry)) (now (tail .entry)) from n) (now (out .entry)) ⌝ }
 {
     let mut j: usize = 0;
     while j < n {
-        let r = row_at(key, exit, next, from + j);
+        let r = row_at(key, tail, from + j);
         put_at(r, j, out);
         j += 1;
     }
@@ -96,7 +92,7 @@ pub fn two(s: &[u8], at: usize) -> u32
 // A number of three bytes, high byte first.
 pub fn three(s: &[u8], at: usize) -> u32
     requires { ⌜ at + 3 ≤ length (now s) ⌝ }
-    ensures { λ r. ⌜ (r ≡ num3 (now (s .entry)) at) × (r < 16777216) ⌝ }
+    ensures { λ r. ⌜ (r ≡ num3 (now (s .entry)) at) × (r < fieldLimit) ⌝ }
 {
     wide(s[at]) * 65536 + wide(s[at + 1]) * 256 + wide(s[at + 2])
 }
@@ -175,32 +171,32 @@ fn read_key(s: &[u8], at: usize) -> u64
     let place = wide(s[at]) as u64;
     let entry = three(s, at + 1) as u64;
     let ticket = three(s, at + 4) as u64;
-    place * 281474976710656 + entry * 16777216 + ticket
+    place * flat::PLACE + entry * flat::SECOND + ticket
+}
+
+// The tail of the row that stands at an index of the bytes.
+fn read_tail(s: &[u8], at: usize) -> u32
+    requires { ⌜ at + 11 ≤ length (now s) ⌝ }
+    ensures { λ r. ⌜ TailRead (now (s .entry)) at r ⌝ }
+{
+    let exit = three(s, at + 7);
+    flat::tail_of(exit, s[at + 10])
 }
 
 // The rows of a book slice.
-pub fn read_rows(
-    s: &[u8],
-    count: usize,
-    key: &mut [u64; 1024],
-    exit: &mut [u32; 1024],
-    next: &mut [u8; 1024],
-)
+pub fn read_rows(s: &[u8], count: usize, key: &mut [u64; 1024], tail: &mut [u32; 1024])
     requires { ⌜ count ≤ 1024 ⌝ }
     requires { ⌜ 5 + 11 * count ≤ length (now s) ⌝ }
     requires { ⌜ length (now key) ≡ 1024 ⌝ }
-    requires { ⌜ length (now exit) ≡ 1024 ⌝ }
-    requires { ⌜ length (now next) ≡ 1024 ⌝ }
+    requires { ⌜ length (now tail) ≡ 1024 ⌝ }
     requires { ⌜ ((i : ℕ) → at (now key) i ≡ 0) ⌝ }
-    requires { ⌜ ((i : ℕ) → at (now exit) i ≡ 0) ⌝ }
-    ensures { λ _. ⌜ RowsOf (now (s .entry)) count (now (key .exit)) (now (exit .exit)) (now (next .exit)) ⌝ }
+    ensures { λ _. ⌜ RowsOf (now (s .entry)) count (now (key .exit)) (now (tail .exit)) ⌝ }
 {
     let mut j: usize = 0;
     while j < count {
         let at = 5 + 11 * j;
         key[j] = read_key(s, at);
-        exit[j] = three(s, at + 7);
-        next[j] = s[at + 10];
+        tail[j] = read_tail(s, at);
         j += 1;
     }
 }

@@ -3,7 +3,7 @@
 use native.Mathlib.Omega.{arith}
 use borrow.Author.Tests.{not-true, not-false}
 use Rattle.laws.specs.Tests.{not-both}
-use Rattle.bookfit.specs.Answer.{few-links, sound-given, sound-next, not-formed, overfull-book, opposed-book, formed-book}
+use Rattle.bookfit.specs.Answer.{few-links, sound-given, sound-by-place, not-formed, overfull-book, opposed-book, formed-book}
 use Rattle.bookfit.proofs.book_fits.Statement.{statement}
 use Rattle.bookfit.proofs.book_fits.Tie as tie
 
@@ -18,72 +18,65 @@ returns c =
     let F = s .args .from .now in
     let T = s .args .to .now in
     let K = s .args .key .now in
-    let X = s .args .exit .now in
-    let N = s .args .next .now in
+    let X = s .args .tail .now in
     let l = s .pre .1 .1 .1 in
-    not-formed C D (s .args .n) F T (s .args .k) K X N (s .args .count) (s .args .next-ticket) (s .pre .0) (s .pre .1 .1 .0) _ _ _ _ _ (λ z. not-both (c .before .rows-sound .ensures .1 (z .sound)) (not-true (c .before .rows-sound .result) (c .if1 .taken))) (l .0) (l .1 .0) (l .1 .1 .0) (l .1 .1 .1 .0) (l .1 .1 .1 .1)
+    not-formed C D (s .args .n) F T (s .args .k) K X (s .args .count) (s .args .next-ticket) (s .pre .0) _ _ _ _ (λ z. not-both (c .before .rows-sound .ensures .1 (z .sound)) (not-true (c .before .rows-sound .result) (c .if1 .taken))) (l .0) (l .1 .0) (l .1 .1 .0) (l .1 .1 .1)
 
 all-windows-requires : tie.Need-all-windows-requires
 all-windows-requires c κs =
-    let s = c .before .before .before .before .before .before .before in
+    let s = c .before .before .before .before .before .before in
     let C = s .args .cap .now in
     let D = s .args .dur .now in
     let F = s .args .from .now in
     let T = s .args .to .now in
     let K = s .args .key .now in
-    let X = s .args .exit .now in
-    let N = s .args .next .now in
-    (sound-given C D (s .args .n) F T (s .args .k) K X N (s .args .count) (s .args .next-ticket) (s .pre .0) (s .pre .1 .1 .0) (c .before .before .before .before .before .before .rows-sound .ensures .0 (not-false (c .before .before .before .before .before .before .rows-sound .result) (c .before .before .before .before .before .if1 .left))), s .pre .1 .1 .1)
+    let X = s .args .tail .now in
+    (sound-given C D (s .args .n) F T (s .args .k) K X (s .args .count) (s .args .next-ticket) (s .pre .0) (c .before .before .before .before .before .rows-sound .ensures .0 (not-false (c .before .before .before .before .before .rows-sound .result) (c .before .before .before .before .if1 .left))), s .pre .1 .1 .1)
 
 returns-2 : tie.Need-returns-2
 returns-2 c =
-    let s = c .before .before .before .before .before .before .before .before .before in
+    let s = c .before .before .before .before .before .before .before .before in
     let C = s .args .cap .now in
     let D = s .args .dur .now in
     let F = s .args .from .now in
     let T = s .args .to .now in
     let K = s .args .key .now in
-    let X = s .args .exit .now in
-    let N = s .args .next .now in
-    overfull-book C D (s .args .n) F T (s .args .k) K X N (s .args .count) (s .args .next-ticket) (s .pre .0) (s .pre .1 .1 .0) _ _ _ _ _ _ (c .before .all-windows .ensures) (c .if2 .taken)
+    let X = s .args .tail .now in
+    overfull-book C D (s .args .n) F T (s .args .k) K X (s .args .count) (s .args .next-ticket) (s .pre .0) _ _ _ _ _ (c .before .all-windows .ensures) (c .if2 .taken)
 
 exchange-kept-requires : tie.Need-exchange-kept-requires
 exchange-kept-requires c κs =
+    let s = c .before .before .before .before .before .before .before .before in
+    let C = s .args .cap .now in
+    let D = s .args .dur .now in
+    let F = s .args .from .now in
+    let T = s .args .to .now in
+    let K = s .args .key .now in
+    let X = s .args .tail .now in
+    let S = c .before .before .before .before .before .before .before .rows-sound .ensures .0 (not-false (c .before .before .before .before .before .before .before .rows-sound .result) (c .before .before .before .before .before .before .if1 .left)) in
+    sound-by-place C D (s .args .n) F T (s .args .k) K X (s .args .count) (s .args .next-ticket) (s .pre .0) (s .pre .1 .1 .0) S
+
+returns-3 : tie.Need-returns-3
+returns-3 c =
     let s = c .before .before .before .before .before .before .before .before .before .before in
     let C = s .args .cap .now in
     let D = s .args .dur .now in
     let F = s .args .from .now in
     let T = s .args .to .now in
     let K = s .args .key .now in
-    let X = s .args .exit .now in
-    let N = s .args .next .now in
-    let S = c .before .before .before .before .before .before .before .before .before .rows-sound .ensures .0 (not-false (c .before .before .before .before .before .before .before .before .before .rows-sound .result) (c .before .before .before .before .before .before .before .before .if1 .left)) in
-    let all = c .before .before .all-windows .ensures in
-    (S .few, (all .rows-by-place (omega (arith, all .bound, c .before .if2 .left)), sound-next C D (s .args .n) F T (s .args .k) K X N (s .args .count) (s .args .next-ticket) (s .pre .0) (s .pre .1 .1 .0) S))
-
-returns-3 : tie.Need-returns-3
-returns-3 c =
-    let s = c .before .before .before .before .before .before .before .before .before .before .before .before in
-    let C = s .args .cap .now in
-    let D = s .args .dur .now in
-    let F = s .args .from .now in
-    let T = s .args .to .now in
-    let K = s .args .key .now in
-    let X = s .args .exit .now in
-    let N = s .args .next .now in
-    opposed-book C D (s .args .n) F T (s .args .k) K X N (s .args .count) (s .args .next-ticket) (s .pre .0) (s .pre .1 .1 .0) _ _ _ _ _ _ (c .before .before .before .before .all-windows .ensures) (λ u. not-both (c .before .exchange-kept .ensures .1 u) (not-true (c .before .exchange-kept .result) (c .if3 .taken)))
+    let X = s .args .tail .now in
+    opposed-book C D (s .args .n) F T (s .args .k) K X (s .args .count) (s .args .next-ticket) (s .pre .0) _ _ _ _ _ (c .before .before .before .all-windows .ensures) (λ u. not-both (c .before .exchange-kept .ensures .1 u) (not-true (c .before .exchange-kept .result) (c .if3 .taken)))
 
 returns-4 : tie.Need-returns-4
 returns-4 c =
-    let s = c .before .before .before .before .before .before .before .before .before .before .before .before in
+    let s = c .before .before .before .before .before .before .before .before .before .before in
     let C = s .args .cap .now in
     let D = s .args .dur .now in
     let F = s .args .from .now in
     let T = s .args .to .now in
     let K = s .args .key .now in
-    let X = s .args .exit .now in
-    let N = s .args .next .now in
-    formed-book C D (s .args .n) F T (s .args .k) K X N (s .args .count) (s .args .next-ticket) (s .pre .0) (s .pre .1 .1 .0) _ _ _ _ _ _ (c .before .before .before .before .all-windows .ensures) (c .before .before .before .if2 .left) (c .before .before .before .before .before .before .before .before .before .before .before .rows-sound .ensures .0 (not-false (c .before .before .before .before .before .before .before .before .before .before .before .rows-sound .result) (c .before .before .before .before .before .before .before .before .before .before .if1 .left))) (c .before .exchange-kept .ensures .0 (not-false (c .before .exchange-kept .result) (c .if3 .left)))
+    let X = s .args .tail .now in
+    formed-book C D (s .args .n) F T (s .args .k) K X (s .args .count) (s .args .next-ticket) (s .pre .0) _ _ _ _ _ (c .before .before .before .all-windows .ensures) (c .before .before .if2 .left) (c .before .before .before .before .before .before .before .before .before .rows-sound .ensures .0 (not-false (c .before .before .before .before .before .before .before .before .before .rows-sound .result) (c .before .before .before .before .before .before .before .before .if1 .left))) (c .before .exchange-kept .ensures .0 (not-false (c .before .exchange-kept .result) (c .if3 .left)))
 
 pub book-fits-spec : {M : Type 1} → statement M
 book-fits-spec =

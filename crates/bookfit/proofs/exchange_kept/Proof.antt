@@ -1,5 +1,5 @@
 -- No row goes against another exactly where the answer is true. Each row met so far that goes on has marked its crossing's slot, so that an
--- earlier one against it can only be where the slot is marked; there the next place's rows are looked through.
+-- earlier one against it can only be where the slot is marked; there its own crossing is looked up.
 use Prim.Native.Nat.{_-_, _≤_}
 use mathlib.Core.Path.{_≡_, refl}
 use mathlib.Core.Logic.{⊎-elim}
@@ -15,13 +15,13 @@ use Rattle.bookfit.proofs.exchange_kept.Statement.{statement}
 use Rattle.bookfit.proofs.exchange_kept.Tie as tie
 
 abbrev Inv-loop : tie.InvT-loop
-Inv-loop n key exit next count rows seen₀ i₀ seen i = (i ≤ count) × (length seen ≡ 4096) × Met (at key) (at exit) (at next) (λ j. getD seen j false) i
+Inv-loop key tail count seen₀ i₀ seen i = (i ≤ count) × (length seen ≡ 4096) × Met (at key) (at tail) (λ j. getD seen j false) i
 
 abbrev μ-loop : tie.MeasureT-loop
-μ-loop n key exit next count rows seen₀ i₀ seen i = count - i
+μ-loop key tail count seen₀ i₀ seen i = count - i
 
 loop-holds : tie.Need-loop-holds Inv-loop μ-loop
-loop-holds c = (omega arith, refl, met-start _ _ _ _)
+loop-holds c = (omega arith, refl, met-start _ _ _)
 
 mul-k : tie.Need-mul-k Inv-loop μ-loop
 mul-k c = search needs
@@ -29,17 +29,14 @@ mul-k c = search needs
 element-copy-out-k : tie.Need-element-copy-out-k Inv-loop μ-loop
 element-copy-out-k c = search needs
 
-element-copy-out-q : tie.Need-element-copy-out-q Inv-loop μ-loop
-element-copy-out-q c = search needs
+mul-x : tie.Need-mul-x Inv-loop μ-loop
+mul-x c = search needs
+
+element-copy-out-x : tie.Need-element-copy-out-x Inv-loop μ-loop
+element-copy-out-x c = search needs
 
 is-last-requires : tie.Need-is-last-requires Inv-loop μ-loop
 is-last-requires c κs = search needs
-
-mul-cross-slot : tie.Need-mul-cross-slot Inv-loop μ-loop
-mul-cross-slot c = search needs
-
-element-copy-out-cross-slot : tie.Need-element-copy-out-cross-slot Inv-loop μ-loop
-element-copy-out-cross-slot c = search needs
 
 cross-slot-requires : tie.Need-cross-slot-requires Inv-loop μ-loop
 cross-slot-requires c κs = search needs
@@ -47,15 +44,13 @@ cross-slot-requires c κs = search needs
 array-read-s : tie.Need-array-read-s Inv-loop μ-loop
 array-read-s c = search needs
 
-opposed-met-requires : tie.Need-opposed-met-requires Inv-loop μ-loop
-opposed-met-requires c κs =
-    let s = c .before .before .before .before .before .before .before .before in
-    let g = goes-by _ _ _ (c .before .before .before .is-last .ensures) (c .before .before .if1 .taken) in
-    let h = c .before .before .before .before .before .before .loop-test .taken in
-    (s .pre .0, (h, (s .pre .1 .0, (g, s .pre .1 .1 (c .before .before .before .before .before .before .before .loop .i) h g))))
+opposed-requires : tie.Need-opposed-requires Inv-loop μ-loop
+opposed-requires c κs =
+    let s = c .before .before .before .before .before .before .before in
+    (s .pre, (c .before .before .before .before .before .loop-test .taken, goes-by _ _ _ (c .before .before .is-last .ensures) (c .before .if1 .taken)))
 
 returns : tie.Need-returns Inv-loop μ-loop
-returns c = (λ q. absurd (not-both q refl), λ A. absurd (A .each (c .before .before .before .before .before .before .before .before .before .loop .i) (c .before .before .before .before .before .before .before .before .loop-test .taken) (c .before .opposed-met .ensures .0 (c .if2 .taken))))
+returns c = (λ q. absurd (not-both q refl), λ A. absurd (A .each (c .before .before .before .before .before .before .before .before .loop .i) (c .before .before .before .before .before .before .before .loop-test .taken) (c .before .opposed .ensures .0 (c .if2 .taken))))
 
 array-write-seen : tie.Need-array-write-seen Inv-loop μ-loop
 array-write-seen c = search needs
@@ -72,16 +67,15 @@ loop-again c =
     let l = c .before .before .before .before .before .loop in
     let h = c .before .before .before .before .loop-test .taken in
     let K = at (s .args .key .now) in
-    let X = at (s .args .exit .now) in
-    let N = at (s .args .next .now) in
+    let X = at (s .args .tail .now) in
     ⊎-elim
-    (λ w. met-mark K X N (s .args .count) 4096 (l .i) (l .seen) (c .if1 .seen) (l .inv .1) (l .inv .2) h (omega arith)
-    (w .2 .result) (w .2 .ensures .0) (w .2 .ensures .1) (w .3 .result) (w .3 .ensures .1) (w .4 .left) (w .5))
-    (λ w. met-skip K X N (s .args .count) 4096 (l .i) (l .seen) (c .if1 .seen) (l .inv .1) (l .inv .2) h (last-by _ _ _ (c .before .is-last .ensures) (w .0 .left)) (w .1))
+    (λ w. met-mark K X (s .args .count) 4096 (l .i) (l .seen) (c .if1 .seen) (l .inv .1) (l .inv .2) h (omega arith)
+    (w .1 .result) (w .1 .ensures .0) (w .1 .ensures .1) (w .2 .result) (w .2 .ensures .1) (w .3 .left) (w .4))
+    (λ w. met-skip K X (s .args .count) 4096 (l .i) (l .seen) (c .if1 .seen) (l .inv .1) (l .inv .2) h (last-by _ _ _ (c .before .is-last .ensures) (w .0 .left)) (w .1))
     (c .if1 .came)
 
 returns-2 : tie.Need-returns-2 Inv-loop μ-loop
-returns-2 c = let e : c .before .loop .i ≡ c .before .before .args .count = omega arith in (λ _. met-all _ _ _ _ (rw e at (c .before .loop .inv .2)), λ _. refl)
+returns-2 c = let e : c .before .loop .i ≡ c .before .before .args .count = omega arith in (λ _. met-all _ _ _ (rw e at (c .before .loop .inv .2)), λ _. refl)
 
 pub exchange-kept-spec : {M : Type 1} → statement M
 exchange-kept-spec =
@@ -92,13 +86,12 @@ exchange-kept-spec =
     loop-holds
     mul-k
     element-copy-out-k
-    element-copy-out-q
+    mul-x
+    element-copy-out-x
     is-last-requires
-    mul-cross-slot
-    element-copy-out-cross-slot
     cross-slot-requires
     array-read-s
-    opposed-met-requires
+    opposed-requires
     returns
     array-write-seen
     add-i

@@ -12,10 +12,10 @@ use Rattle.bookfit.proofs.last_among.Statement.{statement}
 use Rattle.bookfit.proofs.last_among.Tie as tie
 
 abbrev Inv-loop : tie.InvT-loop
-Inv-loop key next i t j₀ j = (j ≤ i) × (LastBelow (at key) (at next) j t → ⊥)
+Inv-loop key tail i t j₀ j = (j ≤ i) × (LastBelow (at key) (at tail) j t → ⊥)
 
 abbrev μ-loop : tie.MeasureT-loop
-μ-loop key next i t j₀ j = i - j
+μ-loop key tail i t j₀ j = i - j
 
 loop-holds : tie.Need-loop-holds Inv-loop μ-loop
 loop-holds c = (omega arith, no-last-start _ _ _)
@@ -25,6 +25,9 @@ mul-last-of c = search needs
 
 element-copy-out-last-of : tie.Need-element-copy-out-last-of Inv-loop μ-loop
 element-copy-out-last-of c = search needs
+
+mul-last-of-2 : tie.Need-mul-last-of-2 Inv-loop μ-loop
+mul-last-of-2 c = search needs
 
 element-copy-out-last-of-2 : tie.Need-element-copy-out-last-of-2 Inv-loop μ-loop
 element-copy-out-last-of-2 c = search needs
@@ -56,6 +59,7 @@ last-among-spec =
     loop-holds
     mul-last-of
     element-copy-out-last-of
+    mul-last-of-2
     element-copy-out-last-of-2
     last-of-requires
     returns

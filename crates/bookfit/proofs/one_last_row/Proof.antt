@@ -15,10 +15,10 @@ use Rattle.bookfit.proofs.one_last_row.Statement.{statement}
 use Rattle.bookfit.proofs.one_last_row.Tie as tie
 
 abbrev Inv-loop : tie.InvT-loop
-Inv-loop key next n seen₀ i₀ seen i = (i ≤ n) × (length seen ≡ 4096) × Seen (at key) (at next) (λ j. getD seen j false) i
+Inv-loop key tail n seen₀ i₀ seen i = (i ≤ n) × (length seen ≡ 4096) × Seen (at key) (at tail) (λ j. getD seen j false) i
 
 abbrev μ-loop : tie.MeasureT-loop
-μ-loop key next n seen₀ i₀ seen i = n - i
+μ-loop key tail n seen₀ i₀ seen i = n - i
 
 loop-holds : tie.Need-loop-holds Inv-loop μ-loop
 loop-holds c = (omega arith, refl, seen-start _ _ _)
@@ -28,6 +28,9 @@ mul-k c = search needs
 
 element-copy-out-k : tie.Need-element-copy-out-k Inv-loop μ-loop
 element-copy-out-k c = search needs
+
+mul-is-last : tie.Need-mul-is-last Inv-loop μ-loop
+mul-is-last c = search needs
 
 element-copy-out-is-last : tie.Need-element-copy-out-is-last Inv-loop μ-loop
 element-copy-out-is-last c = search needs
@@ -65,7 +68,7 @@ loop-again c =
     let s = c .before .before .before .before .before .before in
     let l = c .before .before .before .before .before .loop in
     let K = at (s .args .key .now) in
-    let N = at (s .args .next .now) in
+    let N = at (s .args .tail .now) in
     ⊎-elim
     (λ w. seen-mark K N (s .args .count) 4096 (l .i) (l .seen) (c .if1 .seen) (l .inv .1) (l .inv .2) (c .before .before .before .before .loop-test .taken) (omega arith)
     (eqb-true _ _ (sym (c .before .is-last .ensures) ∙ w .0 .taken)) (w .1 .result) (w .1 .ensures .0) (λ t b. not-both (w .2 .ensures .1 t b) (w .3 .left)) (w .4))
@@ -85,6 +88,7 @@ one-last-row-spec =
     loop-holds
     mul-k
     element-copy-out-k
+    mul-is-last
     element-copy-out-is-last
     is-last-requires
     slot-of-requires

@@ -1,84 +1,60 @@
--- A row goes against row i exactly where one of its next place's rows does, since all rows of that place stand there together.
-use native.Mathlib.Omega.{arith}
-use Rattle.laws.specs.Lists.{at}
-use Rattle.bookfit.specs.Against.{rows-within, crossed-opposed, opposed-crossed}
+-- Where the slot is not marked nothing is looked for; where it is, a row goes against row i exactly where its own crossing is barred.
+use mathlib.Core.Path.{refl, sym, _∙_}
+use borrow.Author.Tests.{not-true}
+use Rattle.laws.specs.Tests.{not-both}
+use Rattle.bookfit.specs.Against.{crossed-opposed, opposed-crossed}
 use borrow.Author.Needs.{needs}
 use Rattle.bookfit.proofs.opposed.Statement.{statement}
 use Rattle.bookfit.proofs.opposed.Tie as tie
 
-element-copy-out-place-index : tie.Need-element-copy-out-place-index
-element-copy-out-place-index c = search needs
-
-place-index-requires : tie.Need-place-index-requires
-place-index-requires c κs = search needs
-
-mul-row-index : tie.Need-mul-row-index
-mul-row-index c = search needs
-
-element-copy-out-row-index : tie.Need-element-copy-out-row-index
-element-copy-out-row-index c = search needs
-
-row-index-requires : tie.Need-row-index-requires
-row-index-requires c κs = search needs
-
-add-row-index : tie.Need-add-row-index
-add-row-index c = search needs
-
-mul-row-index-2 : tie.Need-mul-row-index-2
-mul-row-index-2 c = search needs
-
-element-copy-out-row-index-2 : tie.Need-element-copy-out-row-index-2
-element-copy-out-row-index-2 c = search needs
-
-row-index-requires-2 : tie.Need-row-index-requires-2
-row-index-requires-2 c κs = search needs
-
-mul-crossed : tie.Need-mul-crossed
-mul-crossed c = search needs
-
-element-copy-out-crossed : tie.Need-element-copy-out-crossed
-element-copy-out-crossed c = search needs
-
-mul-crossed-2 : tie.Need-mul-crossed-2
-mul-crossed-2 c = search needs
-
-element-copy-out-crossed-2 : tie.Need-element-copy-out-crossed-2
-element-copy-out-crossed-2 c = search needs
-
-crossed-requires : tie.Need-crossed-requires
-crossed-requires c κs =
-    let s = c .before .before .before .before .before .before .before .before in
-    let h = c .before .before .before .before .before .before .place-index in
-    let a = c .before .before .before .before .row-index in
-    let b = c .before .before .row-index2 in
-    omega (arith, rows-within (at (s .args .key .now)) (s .pre .1 .1 .0) (at (s .args .exit .now)) (at (s .args .next .now)) (s .args .i) (h .result) (a .result) (b .result) (h .ensures .0) (a .ensures) (b .ensures) (s .pre .1 .1 .1 .1), s .pre .0)
-
 returns : tie.Need-returns
-returns c =
-    let s = c .before .before .before .before .before .before .before .before .before in
-    let h = c .before .before .before .before .before .before .before .place-index in
-    let a = c .before .before .before .before .before .row-index in
-    let b = c .before .before .before .row-index2 in (
-      λ q. crossed-opposed (at (s .args .key .now)) (s .pre .1 .1 .0) (at (s .args .exit .now)) (at (s .args .next .now)) (s .args .i) (h .result) (a .result) (b .result) (h .ensures .0) (a .ensures) (b .ensures) (s .pre .1 .1 .1 .0) (s .pre .1 .1 .1 .1) (c .crossed .ensures .0 q),
-      λ o. c .crossed .ensures .1 (opposed-crossed (at (s .args .key .now)) (s .pre .1 .1 .0) (at (s .args .exit .now)) (at (s .args .next .now)) (s .args .i) (h .result) (a .result) (b .result) (h .ensures .0) (a .ensures) (b .ensures) o),
+returns c = (λ q. absurd (not-both q refl), λ t _. absurd (not-both t (not-true (c .before .args .marked) (c .if1 .taken))))
+
+mul-place-of : tie.Need-mul-place-of
+mul-place-of c = search needs
+
+element-copy-out-place-of : tie.Need-element-copy-out-place-of
+element-copy-out-place-of c = search needs
+
+place-of-requires : tie.Need-place-of-requires
+place-of-requires c κs = let s = c .before .before in s .pre .0 .timed .keyed .small (s .args .i) (s .pre .1 .0)
+
+mul-x : tie.Need-mul-x
+mul-x c = search needs
+
+element-copy-out-x : tie.Need-element-copy-out-x
+element-copy-out-x c = search needs
+
+next-of-requires : tie.Need-next-of-requires
+next-of-requires c κs = search needs
+
+exit-of-requires : tie.Need-exit-of-requires
+exit-of-requires c κs = search needs
+
+barred-requires : tie.Need-barred-requires
+barred-requires c κs =
+    let s = c .before .before .before .before .before .before in
+    (record { by-place = s .pre .0; apart = λ z. s .pre .1 .1 (sym (c .before .next-of .ensures .0) ∙ z ∙ c .before .before .before .place-of .ensures) }, c .exit-of .ensures .1)
+
+returns-2 : tie.Need-returns-2
+returns-2 c =
+    let s = c .before .before .before .before .before .before .before in
+    let e = rw (c .before .before .next-of .ensures .0, c .before .before .before .before .place-of .ensures, c .before .exit-of .ensures .0) at (c .barred .ensures) in (
+      λ q. crossed-opposed (s .args .key .now) (s .args .tail .now) (s .args .count) (s .args .i) (s .pre .1 .1) (sym e ∙ q),
+      λ _ o. e ∙ opposed-crossed (s .args .key .now) (s .args .tail .now) (s .args .count) (s .args .i) o,
     )
 
 pub opposed-spec : {M : Type 1} → statement M
 opposed-spec =
     tie.close
     (tie.spec
-    element-copy-out-place-index
-    place-index-requires
-    mul-row-index
-    element-copy-out-row-index
-    row-index-requires
-    add-row-index
-    mul-row-index-2
-    element-copy-out-row-index-2
-    row-index-requires-2
-    mul-crossed
-    element-copy-out-crossed
-    mul-crossed-2
-    element-copy-out-crossed-2
-    crossed-requires
-    returns)
+    returns
+    mul-place-of
+    element-copy-out-place-of
+    place-of-requires
+    mul-x
+    element-copy-out-x
+    next-of-requires
+    exit-of-requires
+    barred-requires
+    returns-2)

@@ -7,6 +7,18 @@ use borrow.Author.Needs.{needs}
 use Rattle.bookfit.proofs.row_fits.Statement.{statement}
 use Rattle.bookfit.proofs.row_fits.Tie as tie
 
+next-of-requires : tie.Need-next-of-requires
+next-of-requires c κs = search needs
+
+cast-q : tie.Need-cast-q
+cast-q c = search needs
+
+exit-of-requires : tie.Need-exit-of-requires
+exit-of-requires c κs = search needs
+
+cast-x : tie.Need-cast-x
+cast-x c = search needs
+
 mul-least-exit : tie.Need-mul-least-exit
 mul-least-exit c = search needs
 
@@ -26,36 +38,48 @@ returns-3 : tie.Need-returns-3
 returns-3 c = (λ q. absurd (not-both q refl), λ F. absurd (omega (arith, F .lasts, c .before .before .before .least-exit .ensures)))
 
 returns-4 : tie.Need-returns-4
-returns-4 c = (
-  λ t. record {
-    on-map = c .before .before .before .if1 .left;
-    in-day = c .before .before .if2 .left;
-    lasts = omega (arith, c .before .if3 .left, c .before .before .before .before .least-exit .ensures);
-    exact = λ _. eqb-true _ _ t ∙ c .before .before .before .before .least-exit .ensures;
-    linked = λ g. absurd (g (sym (c .if4 .taken)));
-  },
-  λ F. eq-eqb _ _ (F .exact (sym (c .if4 .taken)) ∙ sym (c .before .before .before .before .least-exit .ensures)),
-)
+returns-4 c =
+    let l = c .before .before .before .before .least-exit .ensures in
+    let x = c .before .before .before .before .before .before .exit-of .ensures .0 in
+    let q = c .before .before .before .before .before .before .before .next-of .ensures .0 in
+    let e = sym q ∙ sym (c .if4 .taken) in (
+      λ t. record {
+        on-map = c .before .before .before .if1 .left;
+        in-day = omega (arith, c .before .before .if2 .left);
+        lasts = omega (arith, c .before .if3 .left);
+        exact = λ _. sym x ∙ eqb-true _ _ t ∙ l;
+        linked = λ g. absurd (g e);
+      },
+      λ F. eq-eqb _ _ (x ∙ F .exact e ∙ sym l),
+    )
 
 linked-by-requires : tie.Need-linked-by-requires
 linked-by-requires c κs = search needs
 
 returns-5 : tie.Need-returns-5
-returns-5 c = (
-  λ t. record {
-    on-map = c .before .before .before .before .if1 .left;
-    in-day = c .before .before .before .if2 .left;
-    lasts = omega (arith, c .before .before .if3 .left, c .before .before .before .before .before .least-exit .ensures);
-    exact = λ e. absurd (c .before .if4 .left (sym e));
-    linked = λ _. sym (c .linked-by .ensures) ∙ t;
-  },
-  λ F. c .linked-by .ensures ∙ F .linked (λ e. c .before .if4 .left (sym e)),
-)
+returns-5 c =
+    let l = c .before .before .before .before .before .least-exit .ensures in
+    let x = c .before .before .before .before .before .before .before .exit-of .ensures .0 in
+    let q = c .before .before .before .before .before .before .before .before .next-of .ensures .0 in
+    let b = rw q at (c .linked-by .ensures) in (
+      λ t. record {
+        on-map = c .before .before .before .before .if1 .left;
+        in-day = omega (arith, c .before .before .before .if2 .left);
+        lasts = omega (arith, c .before .before .if3 .left);
+        exact = λ e. absurd (c .before .if4 .left (sym (q ∙ e)));
+        linked = λ _. sym b ∙ t;
+      },
+      λ F. b ∙ F .linked (λ e. c .before .if4 .left (sym (q ∙ e))),
+    )
 
 pub row-fits-spec : {M : Type 1} → statement M
 row-fits-spec =
     tie.close
     (tie.spec
+    next-of-requires
+    cast-q
+    exit-of-requires
+    cast-x
     mul-least-exit
     element-copy-out-least-exit
     least-exit-requires

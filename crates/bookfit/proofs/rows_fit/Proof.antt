@@ -14,10 +14,10 @@ use Rattle.bookfit.proofs.rows_fit.Statement.{statement}
 use Rattle.bookfit.proofs.rows_fit.Tie as tie
 
 abbrev Inv-loop : tie.InvT-loop
-Inv-loop n k dur from to head chain key exit next count i₀ i = RowsFit n (at dur) (linked (linksIn from to k)) (at key) (at exit) (at next) i
+Inv-loop n k dur from to head chain key tail count i₀ i = RowsFit n (at dur) (linked (linksIn from to k)) (at key) (at tail) i
 
 abbrev μ-loop : tie.MeasureT-loop
-μ-loop n k dur from to head chain key exit next count i₀ i = count - i
+μ-loop n k dur from to head chain key tail count i₀ i = count - i
 
 loop-holds : tie.Need-loop-holds Inv-loop μ-loop
 loop-holds c = each-start _
@@ -34,14 +34,11 @@ mul-row-fits-2 c = search needs
 element-copy-out-row-fits-2 : tie.Need-element-copy-out-row-fits-2 Inv-loop μ-loop
 element-copy-out-row-fits-2 c = search needs
 
-element-copy-out-row-fits-3 : tie.Need-element-copy-out-row-fits-3 Inv-loop μ-loop
-element-copy-out-row-fits-3 c = search needs
-
 row-fits-requires : tie.Need-row-fits-requires Inv-loop μ-loop
-row-fits-requires c κs = let s = c .before .before .before .before .before in (s .pre .1 .0, (s .pre .1 .1 .0, s .pre .1 .1 .1 (c .before .before .before .before .loop .i)))
+row-fits-requires c κs = let s = c .before .before .before .before in (s .pre .1 .0, (s .pre .1 .1 .0, s .pre .1 .1 .1 (c .before .before .before .loop .i)))
 
 returns : tie.Need-returns Inv-loop μ-loop
-returns c = (λ q. absurd (not-both q refl), λ A. absurd (not-both (c .before .row-fits .ensures .1 (A .each (c .before .before .before .before .before .before .loop .i) (c .before .before .before .before .before .loop-test .taken))) (not-true (c .before .row-fits .result) (c .if1 .taken))))
+returns c = (λ q. absurd (not-both q refl), λ A. absurd (not-both (c .before .row-fits .ensures .1 (A .each (c .before .before .before .before .before .loop .i) (c .before .before .before .before .loop-test .taken))) (not-true (c .before .row-fits .result) (c .if1 .taken))))
 
 add-i : tie.Need-add-i Inv-loop μ-loop
 add-i c = search needs
@@ -50,7 +47,7 @@ loop-less : tie.Need-loop-less Inv-loop μ-loop
 loop-less c = search needs
 
 loop-again : tie.Need-loop-again Inv-loop μ-loop
-loop-again c = each-next _ _ (c .before .before .before .before .before .before .loop .inv) (c .before .row-fits .ensures .0 (not-false (c .before .row-fits .result) (c .if1 .left)))
+loop-again c = each-next _ _ (c .before .before .before .before .before .loop .inv) (c .before .row-fits .ensures .0 (not-false (c .before .row-fits .result) (c .if1 .left)))
 
 returns-2 : tie.Need-returns-2 Inv-loop μ-loop
 returns-2 c = (λ _. each-to _ _ _ (omega arith) (c .before .loop .inv), λ _. refl)
@@ -66,7 +63,6 @@ rows-fit-spec =
     element-copy-out-row-fits
     mul-row-fits-2
     element-copy-out-row-fits-2
-    element-copy-out-row-fits-3
     row-fits-requires
     returns
     add-i

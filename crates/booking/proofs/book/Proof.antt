@@ -7,7 +7,7 @@ use Rattle.booking.proofs.book.Statement.{statement}
 use Rattle.booking.proofs.book.Tie as tie
 
 survey-requires : tie.Need-survey-requires
-survey-requires c κs = ((refl, refl, refl, refl), ((refl, refl, zeros 256), ((refl, refl, refl), ((zeros 1024, zeros 1024, zeros 1024), (refl, refl, refl, refl)))))
+survey-requires c κs = ((refl, refl, refl, refl), ((refl, refl, zeros 256), ((refl, refl), (zeros 1024, (refl, refl, refl, refl)))))
 
 returns : tie.Need-returns
 returns c =
@@ -21,13 +21,13 @@ returns-2 c =
 
 book-sound-requires : tie.Need-book-sound-requires
 book-sound-requires c κs =
-    let W = c .before .before .before .before .before .before .before .before .before .before .before .before .before .before .before .survey .ensures in
-    W .ready (c .before .before .before .before .before .before .before .before .before .before .before .before .before .if2 .left)
+    let W = c .before .before .before .before .before .before .before .before .before .before .before .before .before .before .survey .ensures in
+    W .ready (c .before .before .before .before .before .before .before .before .before .before .before .before .if2 .left)
 
 returns-3 : tie.Need-returns-3
 returns-3 c =
-    let W = c .before .before .before .before .before .before .before .before .before .before .before .before .before .before .before .before .survey .ensures in
-    let h = c .before .before .before .before .before .before .before .before .before .before .before .before .before .before .if2 .left in
+    let W = c .before .before .before .before .before .before .before .before .before .before .before .before .before .before .before .survey .ensures in
+    let h = c .before .before .before .before .before .before .before .before .before .before .before .before .before .if2 .left in
     book-sound-is (W .map (omega arith)) (W .book h) (W .yard h) (c .book-sound .ensures)
 
 pub book-spec : {M : Type 1} → statement M

@@ -7,7 +7,7 @@ use Rattle.booking.proofs.cancel.Statement.{statement}
 use Rattle.booking.proofs.cancel.Tie as tie
 
 survey-requires : tie.Need-survey-requires
-survey-requires c κs = ((refl, refl, refl, refl), ((refl, refl, zeros 256), ((refl, refl, refl), ((zeros 1024, zeros 1024, zeros 1024), (refl, refl, refl, refl)))))
+survey-requires c κs = ((refl, refl, refl, refl), ((refl, refl, zeros 256), ((refl, refl), (zeros 1024, (refl, refl, refl, refl)))))
 
 returns : tie.Need-returns
 returns c =

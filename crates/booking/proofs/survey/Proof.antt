@@ -24,20 +24,24 @@ flat-links-requires c κs = search needs
 
 read-book-requires : tie.Need-read-book-requires
 read-book-requires c κs =
-    let P = c .before .before .before .before .before .before .before .before .before .pre in
+    let P = c .before .before .before .before .before .before .before .before .pre in
     let a = P .1 .1 .0 in
-    let z = P .1 .1 .1 .0 in
-    (a .0, (a .1, (a .2, (z .0, (z .1, z .2)))))
+    (a .0, (a .1, P .1 .1 .1 .0))
 
 vet-requires : tie.Need-vet-requires
 vet-requires c κs =
-    let P = c .before .before .before .before .before .before .before .before .before .before .before .before .before .before .before .before .before .before .before .before .before .before .before .pre in
+    let P = c .before .before .before .before .before .before .before .before .before .before .before .before .before .before .before .before .before .before .before .before .before .pre in
     let a = P .1 .0 in
     let z = P .1 .1 .1 .1 in
-    ((a .0, a .1), (a .2, (c .before .before .before .before .before .before .before .before .before .before .before .before .before .read-book .ensures .flat .packed, (z .1, z .2, z .0, z .3))))
+    ((a .0, a .1), (a .2, (c .before .before .before .before .before .before .before .before .before .before .before .before .read-book .ensures .flat .packed, (z .1, z .2, z .0, z .3))))
 
 returns : tie.Need-returns
-returns c = surveyed (c .before .before .before .before .before .before .before .before .before .before .before .before .before .before .read-book .ensures) (c .before .before .before .before .before .before .before .before .before .before .before .before .before .before .before .before .before .before .before .before .before .flat-places .ensures) (c .before .before .before .before .before .before .before .before .before .before .before .before .before .before .before .before .before .before .flat-links .ensures) (places-long (c .before .before .before .before .before .before .before .before .before .before .before .before .before .before .before .before .before .before .before .before .before .before .before .before)) (links-long (c .before .before .before .before .before .before .before .before .before .before .before .before .before .before .before .before .before .before .before .before .before .before .before .before)) (rows-long (c .before .before .before .before .before .before .before .before .before .before .before .before .before .before .before .before .before .before .before .before .before .before .before .before)) (c .vet .ensures)
+returns c =
+    let b = c .before .before .before .before .before .before .before .before .before .before .before .before .before in
+    let l = b .before .before .before in
+    let p = l .before .before .before in
+    let s = p .before .before .before in
+    surveyed (b .read-book .ensures) (p .flat-places .ensures) (l .flat-links .ensures) (places-long s) (links-long s) (rows-long s) (c .vet .ensures)
 
 pub survey-spec : {M : Type 1} → statement M
 survey-spec =

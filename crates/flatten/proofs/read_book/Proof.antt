@@ -1,5 +1,5 @@
--- `flatten::read_book` meets its contract: after i turns of the first loop the book's first i rows are in range and stand in the arrays, and the second
--- keeps them there and finds zeros from the count on. The first row out of range and the first used slot past the count are none of a well-formed book.
+-- `flatten::read_book` meets its contract: after i turns of the first loop the book's first i rows stand in the arrays, and the second keeps them there and
+-- finds zeros from the count on. The first row out of range and the first used slot past the count are none of a well-formed book.
 use Prim.Native.Nat.{_-_, _≤_}
 use mathlib.Core.Path.{_≡_}
 use native.Mathlib.Omega.{arith}
@@ -14,22 +14,22 @@ use Rattle.flatten.proofs.read_book.Statement.{statement}
 use Rattle.flatten.proofs.read_book.Tie as tie
 
 abbrev Inv-loop : tie.InvT-loop
-Inv-loop key₀ exit₀ next₀ b n i₀ key exit next i = (i ≤ n) × RowsTo b key exit next i
+Inv-loop key₀ tail₀ b n i₀ key tail i = (i ≤ n) × RowsTo b key tail i
 
 abbrev μ-loop : tie.MeasureT-loop
-μ-loop key₀ exit₀ next₀ b n i₀ key exit next i = n - i
+μ-loop key₀ tail₀ b n i₀ key tail i = n - i
 
 abbrev Inv-loop2 : tie.InvT-loop2
-Inv-loop2 key exit next b n i₀ i = (i ≤ 1024) × ZeroTo b key exit next i
+Inv-loop2 key tail b n i₀ i = (i ≤ 1024) × ZeroTo b key tail i
 
 abbrev μ-loop2 : tie.MeasureT-loop2
-μ-loop2 key exit next b n i₀ i = 1024 - i
+μ-loop2 key tail b n i₀ i = 1024 - i
 
 long : (s : tie.Start Inv-loop μ-loop Inv-loop2 μ-loop2) → length (s .args .t1 .rows) ≡ 1024
 long s = search (unmapped, needs)
 
-first : (s : tie.Start Inv-loop μ-loop Inv-loop2 μ-loop2) → RowsTo (s .args .t1) (s .args .key .now) (s .args .exit .now) (s .args .next .now) 0
-first s = rows-none _ _ _ _ (s .pre .0) (s .pre .1 .0) (s .pre .1 .1 .0) (s .pre .1 .1 .1 .0) (s .pre .1 .1 .1 .1 .0)
+first : (s : tie.Start Inv-loop μ-loop Inv-loop2 μ-loop2) → RowsTo (s .args .t1) (s .args .key .now) (s .args .tail .now) 0
+first s = rows-none _ _ _ (s .pre .0) (s .pre .1 .0) (s .pre .1 .1)
 
 returns : tie.Need-returns Inv-loop μ-loop Inv-loop2 μ-loop2
 returns c = read-none (rows-many _ (long (c .before)) (first (c .before)) (omega arith))
@@ -62,14 +62,16 @@ mul-key c = search needs
 element-write-key : tie.Need-element-write-key Inv-loop μ-loop Inv-loop2 μ-loop2
 element-write-key c = search needs
 
-mul-exit : tie.Need-mul-exit Inv-loop μ-loop Inv-loop2 μ-loop2
-mul-exit c = search needs
+tail-of-requires : tie.Need-tail-of-requires Inv-loop μ-loop Inv-loop2 μ-loop2
+tail-of-requires c κs =
+    let t = c .before .before .row-in-range in
+    omega (arith, t .ensures .0 (not-false (t .result) (c .before .if2 .left)) .exit)
 
-element-write-exit : tie.Need-element-write-exit Inv-loop μ-loop Inv-loop2 μ-loop2
-element-write-exit c = search needs
+mul-tail : tie.Need-mul-tail Inv-loop μ-loop Inv-loop2 μ-loop2
+mul-tail c = search needs
 
-element-write-next : tie.Need-element-write-next Inv-loop μ-loop Inv-loop2 μ-loop2
-element-write-next c = search needs
+element-write-tail : tie.Need-element-write-tail Inv-loop μ-loop Inv-loop2 μ-loop2
+element-write-tail c = search needs
 
 add-i : tie.Need-add-i Inv-loop μ-loop Inv-loop2 μ-loop2
 add-i c = search needs
@@ -79,9 +81,11 @@ loop-less c = search needs
 
 loop-again : tie.Need-loop-again Inv-loop μ-loop Inv-loop2 μ-loop2
 loop-again c =
-    let l = c .before .before .before .before .before .loop in
-    let t = c .before .before .row-in-range in
-    (omega arith, rows-next _ _ _ _ _ _ (l .inv .1) (omega arith) (t .ensures .0 (not-false (t .result) (c .before .if2 .left))) (c .row-key .ensures .1) (c .row-key .ensures .0))
+    let l = c .before .before .before .before .before .before .loop in
+    let t = c .before .before .before .row-in-range in
+    let k = c .before .row-key .ensures in
+    let x = c .tail-of .ensures in
+    (omega arith, rows-next _ _ _ _ _ _ (l .inv .1) (omega arith) (t .ensures .0 (not-false (t .result) (c .before .before .if2 .left))) (k .1) (x .1) (k .0) (x .0))
 
 loop2-holds : tie.Need-loop2-holds Inv-loop μ-loop Inv-loop2 μ-loop2
 loop2-holds c =
@@ -139,9 +143,9 @@ read-book-spec =
     row-key-requires
     mul-key
     element-write-key
-    mul-exit
-    element-write-exit
-    element-write-next
+    tail-of-requires
+    mul-tail
+    element-write-tail
     add-i
     loop-less
     loop-again

@@ -10,7 +10,7 @@ use Rattle.pages.proofs.cursor_after.Tie as tie
 returns : tie.Need-returns
 returns c =
     let a = c .before .args in
-    last-none (a .key .now) (a .exit .now) (a .next .now) (a .from) (a .n) (cursorKey (a .c)) (c .if1 .taken)
+    last-none (a .key .now) (a .tail .now) (a .from) (a .n) (cursorKey (a .c)) (c .if1 .taken)
 
 sub-row-at : tie.Need-sub-row-at
 sub-row-at c = search needs
@@ -28,7 +28,7 @@ returns-2 : tie.Need-returns-2
 returns-2 c =
     let a = c .before .before .before .args in
     c .moved .ensures
-    ∙ last-some (a .key .now) (a .exit .now) (a .next .now) (a .from) (a .n) (cursorKey (a .c)) (c .before .before .if1 .left) (c .before .row-at .ensures)
+    ∙ last-some (a .key .now) (a .tail .now) (a .from) (a .n) (cursorKey (a .c)) (c .before .before .if1 .left) (c .before .row-at .ensures)
 
 pub cursor-after-spec : {M : Type 1} → statement M
 cursor-after-spec = tie.close (tie.spec returns sub-row-at add-row-at row-at-requires moved-requires returns-2)

@@ -11,10 +11,10 @@ use Rattle.pages.proofs.first_after.Statement.{statement}
 use Rattle.pages.proofs.first_after.Tie as tie
 
 abbrev Inv-loop : tie.InvT-loop
-Inv-loop key exit next count c lo₀ hi₀ lo hi = Between key (cursorKey c) count lo hi
+Inv-loop key tail count c lo₀ hi₀ lo hi = Between key (cursorKey c) count lo hi
 
 abbrev μ-loop : tie.MeasureT-loop
-μ-loop key exit next count c lo₀ hi₀ lo hi = hi - lo
+μ-loop key tail count c lo₀ hi₀ lo hi = hi - lo
 
 -- what the middle row's test answers
 answer : (k : tie.After-before2 Inv-loop μ-loop)
@@ -60,7 +60,7 @@ loop-again-2 c =
 returns : tie.Need-returns Inv-loop μ-loop
 returns c =
     let a = c .before .before .args in
-    between-end (a .key .now) (a .exit .now) (a .next .now) (c .before .loop .inv) (c .loop-test .left)
+    between-end (a .key .now) (a .tail .now) (c .before .loop .inv) (c .loop-test .left)
 
 pub first-after-spec : {M : Type 1} → statement M
 first-after-spec =

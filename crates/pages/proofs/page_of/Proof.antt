@@ -13,7 +13,7 @@ use Rattle.pages.proofs.page_of.Tie as tie
 within : (f : tie.After-first-after) → f .first-after .result ≤ f .before .before .args .count
 within f =
     let a = f .before .before .args in
-    first-within (a .key .now) (a .exit .now) (a .next .now) (a .count) (cursorKey (a .c)) (f .first-after .ensures)
+    first-within (a .key .now) (a .tail .now) (a .count) (cursorKey (a .c)) (f .first-after .ensures)
 
 first-after-requires : tie.Need-first-after-requires
 first-after-requires c κs = search needs
@@ -46,7 +46,7 @@ returns c =
     let l = k .before .before in
     let f = l .before in
     let a = f .before .before .args in
-    page-done (a .key .now) (a .exit .now) (a .next .now) (a .count) (cursorKey (a .c)) (f .first-after .ensures) (a .size) (a .out .now) (k .copy-rows .last .1 .1 .1 .1 .1 .0) _
+    page-done (a .key .now) (a .tail .now) (a .count) (cursorKey (a .c)) (f .first-after .ensures) (a .size) (a .out .now) (k .copy-rows .last .1 .1 .1 .1 .0) _
     (l .lesser .ensures) refl (c .cursor-after .ensures) (k .copy-rows .ensures)
 
 pub page-of-spec : {M : Type 1} → statement M

@@ -21,10 +21,10 @@ flat-links-requires : tie.Need-flat-links-requires
 flat-links-requires c κs = search needs
 
 read-book-requires : tie.Need-read-book-requires
-read-book-requires c κs = (refl, (refl, (refl, (zeros 1024, (zeros 1024, zeros 1024)))))
+read-book-requires c κs = (refl, (refl, zeros 1024))
 
 page-flat-requires : tie.Need-page-flat-requires
-page-flat-requires c κs = c .before .before .before .before .before .before .before .before .read-book .ensures .flat .packed
+page-flat-requires c κs = c .before .before .before .before .before .before .before .read-book .ensures .flat .packed
 
 same-length : tie.Need-same-length
 same-length c = search needs
@@ -32,8 +32,8 @@ same-length c = search needs
 returns : tie.Need-returns
 returns c =
     let f = c .before .before in
-    let b = f .before .before .before .before .before .before .before .before .before in
-    let l = b .before .before .before .before in
+    let b = f .before .before .before .before .before .before .before .before in
+    let l = b .before .before .before in
     let p = l .before .before .before in
     let s = p .before .before .before .before in
     page-given (p .flat-places .ensures) (l .flat-links .ensures) (long-places s) (long-links s) (b .read-book .ensures) (f .page-flat .ensures)

@@ -14,7 +14,7 @@ use Rattle.paging.proofs.page_flat.Statement.{statement}
 use Rattle.paging.proofs.page_flat.Tie as tie
 
 abbrev booked : tie.Start → List Row
-booked s = rowsIn (s .args .key .now) (s .args .exit .now) (s .args .next .now) (s .args .count)
+booked s = rowsIn (s .args .key .now) (s .args .tail .now) (s .args .count)
 
 vet-requires : tie.Need-vet-requires
 vet-requires c κs = ((refl, refl), (zeros 256, (c .before .before .before .before .before .before .before .pre, (refl, refl, refl, refl))))
@@ -38,7 +38,7 @@ page-sound-requires c κs =
     let s = v .before .before .before .before .before .before .before .before in
     let a = s .args in
     let F = v .vet .ensures .formed (c .before .if2 .left) in
-    (omega (arith, F .few, rows-long (a .key .now) (a .exit .now) (a .next .now) (a .count)), (rising-keys (a .key .now) (a .exit .now) (a .next .now) (a .count) (F .rising), s .pre))
+    (omega (arith, F .few, rows-long (a .key .now) (a .tail .now) (a .count)), (rising-keys (a .key .now) (a .tail .now) (a .count) (F .rising), s .pre))
 
 same-length : tie.Need-same-length
 same-length c = search needs

@@ -13,7 +13,7 @@ use Rattle.paging.proofs.page_sound.Statement.{statement}
 use Rattle.paging.proofs.page_sound.Tie as tie
 
 abbrev booked : tie.Start → List Row
-booked s = rowsIn (s .args .key .now) (s .args .exit .now) (s .args .next .now) (s .args .count)
+booked s = rowsIn (s .args .key .now) (s .args .tail .now) (s .args .count)
 
 returns : tie.Need-returns
 returns c = λ Y e. page-bad-size (booked (c .before .before)) (λ h. let x = h .0 in omega (arith, c .if1 .taken)) refl

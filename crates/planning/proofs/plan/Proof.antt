@@ -21,16 +21,22 @@ flat-links-requires : tie.Need-flat-links-requires
 flat-links-requires c κs = search needs
 
 read-book-requires : tie.Need-read-book-requires
-read-book-requires c κs = (refl, (refl, (refl, (zeros 1024, (zeros 1024, zeros 1024)))))
+read-book-requires c κs = (refl, (refl, zeros 1024))
 
 plan-flat-requires : tie.Need-plan-flat-requires
-plan-flat-requires c κs = c .before .before .before .before .before .before .before .before .read-book .ensures .flat .packed
+plan-flat-requires c κs = c .before .before .before .before .before .before .before .read-book .ensures .flat .packed
 
 same-length : tie.Need-same-length
 same-length c = search needs
 
 returns : tie.Need-returns
-returns c = plan-given (c .before .before .before .before .before .before .before .before .before .before .before .before .before .before .before .before .before .before .flat-places .ensures) (c .before .before .before .before .before .before .before .before .before .before .before .before .before .before .before .flat-links .ensures) (long-places (c .before .before .before .before .before .before .before .before .before .before .before .before .before .before .before .before .before .before .before .before .before .before)) (long-links (c .before .before .before .before .before .before .before .before .before .before .before .before .before .before .before .before .before .before .before .before .before .before)) (c .before .before .before .before .before .before .before .before .before .before .before .read-book .ensures) (c .before .before .plan-flat .ensures)
+returns c =
+    let f = c .before .before in
+    let b = f .before .before .before .before .before .before .before .before in
+    let l = b .before .before .before in
+    let p = l .before .before .before in
+    let s = p .before .before .before .before in
+    plan-given (p .flat-places .ensures) (l .flat-links .ensures) (long-places s) (long-links s) (b .read-book .ensures) (f .plan-flat .ensures)
 
 pub plan-spec : {M : Type 1} → statement M
 plan-spec =

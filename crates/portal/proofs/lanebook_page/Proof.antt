@@ -13,16 +13,16 @@ read-map-requires : tie.Need-read-map-requires
 read-map-requires c κs = search needs
 
 read-book-requires : tie.Need-read-book-requires
-read-book-requires c κs = (refl, (refl, (refl, (zeros 1024, zeros 1024))))
+read-book-requires c κs = (refl, (refl, zeros 1024))
 
 page-flat-requires : tie.Need-page-flat-requires
-page-flat-requires c κs = c .before .before .before .before .before .before .before .before .read-book .ensures .packed
+page-flat-requires c κs = c .before .before .before .before .before .before .before .read-book .ensures .packed
 
 packed-page-requires : tie.Need-packed-page-requires
 packed-page-requires c κs =
     let f = c .before .before in
-    let b = f .before .before .before .before .before .before .before .before .before .read-book in
-    paged-few (rowsIn (b .last .1 .0) (b .last .1 .1 .0) (b .last .1 .1 .1 .0) (b .result .count)) (f .page-flat .ensures)
+    let b = f .before .before .before .before .before .before .before .before .read-book in
+    paged-few (rowsIn (b .last .1 .0) (b .last .1 .1 .0) (b .result .count)) (f .page-flat .ensures)
 
 same-length : tie.Need-same-length
 same-length c = search needs
@@ -30,8 +30,8 @@ same-length c = search needs
 returns : tie.Need-returns
 returns c =
     let f = c .before .before .before in
-    let b = f .before .before .before .before .before .before .before .before .before in
-    let m = b .before .before .before .before in
+    let b = f .before .before .before .before .before .before .before .before in
+    let m = b .before .before .before in
     portal-page (m .read-map .ensures) (b .read-book .ensures) (f .page-flat .ensures) (c .packed-page .ensures)
 
 pub lanebook-page-spec : {M : Type 1} → statement M

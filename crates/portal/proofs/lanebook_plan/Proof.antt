@@ -18,15 +18,15 @@ read-map-requires : tie.Need-read-map-requires
 read-map-requires c κs = search needs
 
 read-book-requires : tie.Need-read-book-requires
-read-book-requires c κs = (refl, (refl, (refl, (zeros 1024, zeros 1024))))
+read-book-requires c κs = (refl, (refl, zeros 1024))
 
 plan-flat-requires : tie.Need-plan-flat-requires
-plan-flat-requires c κs = c .before .before .before .before .before .before .before .before .read-book .ensures .packed
+plan-flat-requires c κs = c .before .before .before .before .before .before .before .read-book .ensures .packed
 
 packed-plan-requires : tie.Need-packed-plan-requires
 packed-plan-requires c κs =
     let f = c .before .before in
-    let s = f .before .before .before .before .before .before .before .before .before .before .before .before .before .before .before .before .before .before .before .before .before in
+    let s = f .before .before .before .before .before .before .before .before .before .before .before .before .before .before .before .before .before .before .before in
     omega (arith, room s, planned-few (f .plan-flat .ensures))
 
 same-length : tie.Need-same-length
@@ -35,8 +35,8 @@ same-length c = search needs
 returns : tie.Need-returns
 returns c =
     let f = c .before .before .before in
-    let b = f .before .before .before .before .before .before .before .before .before in
-    let m = b .before .before .before .before in
+    let b = f .before .before .before .before .before .before .before .before in
+    let m = b .before .before .before in
     portal-plan (m .read-map .ensures) (b .read-book .ensures) (f .plan-flat .ensures) (c .packed-plan .ensures)
 
 pub lanebook-plan-spec : {M : Type 1} → statement M

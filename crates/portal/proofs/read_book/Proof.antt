@@ -15,8 +15,7 @@ book-shape-requires c κs = search needs
 
 returns : tie.Need-returns
 returns c =
-    let P = c .before .before .before .pre in
-    book-misread _ _ _ (P .1 .1 .1 .0) (P .1 .1 .1 .1) (c .before .book-shape .ensures) (not-true _ (c .if1 .taken))
+    book-misread _ _ (c .before .before .before .pre .1 .1) (c .before .book-shape .ensures) (not-true _ (c .if1 .taken))
 
 three-requires : tie.Need-three-requires
 three-requires c κs = omega (arith, shape c .counts)
@@ -29,7 +28,7 @@ cast-n c = search needs
 
 read-rows-requires : tie.Need-read-rows-requires
 read-rows-requires c κs =
-    let t = c .before .before .before in
+    let t = c .before .before in
     let S = shape (t .before .before) in
     let P = t .before .before .before .before .before .pre in
     let e = t .two .ensures .0 in
@@ -37,7 +36,7 @@ read-rows-requires c κs =
 
 returns-2 : tie.Need-returns-2
 returns-2 c =
-    let t = c .before .before .before .before in
+    let t = c .before .before .before in
     book-read (shape (t .before .before)) (c .read-rows .ensures) (t .two .ensures .0) (t .before .three .ensures .0)
 
 pub read-book-spec : {M : Type 1} → statement M

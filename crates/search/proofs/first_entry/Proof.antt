@@ -11,10 +11,10 @@ use Rattle.search.proofs.first_entry.Statement.{statement}
 use Rattle.search.proofs.first_entry.Tie as tie
 
 abbrev Inv-window : tie.InvT-window
-Inv-window key exit next n q p lo hi t₀ t = Barred (rowsIn key exit next n) q p lo t
+Inv-window key tail n q p lo hi t₀ t = Barred (rowsIn key tail n) q p lo t
 
 abbrev μ-window : tie.MeasureT-window
-μ-window key exit next n q p lo hi t₀ t = hi + 1 - t
+μ-window key tail n q p lo hi t₀ t = hi + 1 - t
 
 window-holds : tie.Need-window-holds Inv-window μ-window
 window-holds c = barred-start _ _ _ _

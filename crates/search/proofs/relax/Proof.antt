@@ -13,10 +13,10 @@ use Rattle.search.proofs.relax.Statement.{statement}
 use Rattle.search.proofs.relax.Tie as tie
 
 abbrev Inv-loop : tie.InvT-loop
-Inv-loop places links windows dur from to head chain place start end first key exit next n w label₀ live₀ least₀ before₀ p here soonest leave cur₀ label live least before cur = AlongLinks (rowsIn key exit next n) places links windows dur from to place start end w (at place w) label₀ live₀ before₀ cur label live least before
+Inv-loop places links windows dur from to head chain place start end first key tail n w label₀ live₀ least₀ before₀ p here soonest leave cur₀ label live least before cur = AlongLinks (rowsIn key tail n) places links windows dur from to place start end w (at place w) label₀ live₀ before₀ cur label live least before
 
 abbrev μ-loop : tie.MeasureT-loop
-μ-loop places links windows dur from to head chain place start end first key exit next n w label₀ live₀ least₀ before₀ p here soonest leave cur₀ label live least before cur = cur
+μ-loop places links windows dur from to head chain place start end first key tail n w label₀ live₀ least₀ before₀ p here soonest leave cur₀ label live least before cur = cur
 
 element-copy-out-p : tie.Need-element-copy-out-p Inv-loop μ-loop
 element-copy-out-p c = search needs
@@ -64,7 +64,7 @@ loop-holds c =
     let s = c .before .before .before .before .before .before .before in
     let G = s .pre .0 in
     let e : c .broad .result ≡ at (s .args .head .now) (at (s .args .place .now) (s .args .w)) = c .broad .ensures .0 ∙ ap (at (s .args .head .now)) (c .before .before .before .before .before .wide .ensures .0) in
-    rw e (along-start (rowsIn (s .args .key .now) (s .args .exit .now) (s .args .next .now) (s .args .n)) G (s .pre .1 .0 .0) refl (s .pre .1 .1 .0) (s .pre .1 .1 .1))
+    rw e (along-start (rowsIn (s .args .key .now) (s .args .tail .now) (s .args .n)) G (s .pre .1 .0 .0) refl (s .pre .1 .1 .0) (s .pre .1 .1 .1))
 
 sub-j : tie.Need-sub-j Inv-loop μ-loop
 sub-j c = search needs
@@ -119,7 +119,7 @@ loop-again c =
     let a = s .args in
     let j : ℕ = l .cur - 1 in
     let ej : suc j ≡ l .cur = omega (arith, c .before .before .before .before .before .before .before .before .loop-test .taken) in
-    let rows = rowsIn (a .key .now) (a .exit .now) (a .next .now) (a .n) in
+    let rows = rowsIn (a .key .now) (a .tail .now) (a .n) in
     let w = c .before .before .before .before .before .before .before .before .before .before .before .before .before .before .before .wide .ensures .0 in
     rw (c .broad2 .ensures .0) (along-next rows (s .pre .0) (s .pre .1 .0 .0) refl (l .inv) ej (ap (λ x. at (a .label .now) (a .w) + at (a .dur .now) x) w)
     (c .before .before .relax-link .ensures .0) (c .before .before .relax-link .ensures .1 .0) (c .before .before .relax-link .ensures .1 .1))
@@ -129,7 +129,7 @@ returns c =
     let s = c .before .before .before .before .before .before .before .before .before in
     let l = c .before .loop in
     let a = s .args in
-    let rows = rowsIn (a .key .now) (a .exit .now) (a .next .now) (a .n) in
+    let rows = rowsIn (a .key .now) (a .tail .now) (a .n) in
     let e : l .cur ≡ 0 = omega (arith, c .loop-test .left) in
     let I : AlongLinks rows (a .places) (a .links) (a .windows) (a .dur .now) (a .from .now) (a .to .now) (a .place .now) (a .start .now) (a .end .now) (a .w) (at (a .place .now) (a .w)) (a .label .now) (a .live .now) (a .before .now) 0 (l .label) (l .live) (l .least) (l .before)
     = subst (λ x. AlongLinks rows (a .places) (a .links) (a .windows) (a .dur .now) (a .from .now) (a .to .now) (a .place .now) (a .start .now) (a .end .now) (a .w) (at (a .place .now) (a .w)) (a .label .now) (a .live .now) (a .before .now) x (l .label) (l .live) (l .least) (l .before)) e (l .inv) in

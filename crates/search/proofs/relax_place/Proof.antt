@@ -11,10 +11,10 @@ use Rattle.search.proofs.relax_place.Statement.{statement}
 use Rattle.search.proofs.relax_place.Tie as tie
 
 abbrev Inv-loop : tie.InvT-loop
-Inv-loop start end key exit next n a b q p d soonest leave w label₀ live₀ least₀ before₀ v₀ label live least before v = Relaxing (rowsIn key exit next n) q p soonest leave d start end a b w label₀ live₀ before₀ label live least before v
+Inv-loop start end key tail n a b q p d soonest leave w label₀ live₀ least₀ before₀ v₀ label live least before v = Relaxing (rowsIn key tail n) q p soonest leave d start end a b w label₀ live₀ before₀ label live least before v
 
 abbrev μ-loop : tie.MeasureT-loop
-μ-loop start end key exit next n a b q p d soonest leave w label₀ live₀ least₀ before₀ v₀ label live least before v = b - v
+μ-loop start end key tail n a b q p d soonest leave w label₀ live₀ least₀ before₀ v₀ label live least before v = b - v
 
 add-first-open : tie.Need-add-first-open Inv-loop μ-loop
 add-first-open c = search needs

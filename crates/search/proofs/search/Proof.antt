@@ -12,10 +12,10 @@ use Rattle.search.proofs.search.Statement.{statement}
 use Rattle.search.proofs.search.Tie as tie
 
 abbrev Inv-loop : tie.InvT-loop
-Inv-loop places links windows cap dur from to head chain place start end first key exit next n src s dest label₀ before₀ blocks live₀ least₀ label before live least = Going windows (nextBy (yardIn cap dur places from to links) (rowsIn key exit next n) place start end) (atDest place dest) src s label live least before
+Inv-loop places links windows cap dur from to head chain place start end first key tail n src s dest label₀ before₀ blocks live₀ least₀ label before live least = Going windows (nextBy (yardIn cap dur places from to links) (rowsIn key tail n) place start end) (atDest place dest) src s label live least before
 
 abbrev μ-loop : tie.MeasureT-loop
-μ-loop places links windows cap dur from to head chain place start end first key exit next n src s dest label₀ before₀ blocks live₀ least₀ label before live least = opens (doneOf label live) windows
+μ-loop places links windows cap dur from to head chain place start end first key tail n src s dest label₀ before₀ blocks live₀ least₀ label before live least = opens (doneOf label live) windows
 
 add-blocks : tie.Need-add-blocks Inv-loop μ-loop
 add-blocks c = omega (arith, c .pre .0 .few)

@@ -1,5 +1,4 @@
 -- `vet::vet` meets its contract: the map's test decides first, then the book's, which also finds the windows.
-use mathlib.Core.Path.{refl}
 use borrow.Author.Needs.{needs}
 use Rattle.vet.specs.Vetted.{vet-map, vet-book}
 use borrow.Author.Tests.{not-true, not-false}
@@ -10,17 +9,17 @@ map-fits-requires : tie.Need-map-fits-requires
 map-fits-requires c κs = search needs
 
 returns : tie.Need-returns
-returns c = vet-map (c .before .map-fits .ensures) _ _ _ _ _ _ _ _ _ (not-true _ (c .if1 .taken))
+returns c = vet-map (c .before .map-fits .ensures) _ _ _ _ _ _ _ _ (not-true _ (c .if1 .taken))
 
 book-fits-requires : tie.Need-book-fits-requires
 book-fits-requires c κs =
-    let P = c .before .before .before .before .before .before .before .before .before .before .before .pre in
-    let m = c .before .before .before .before .before .before .before .before .map-fits .ensures in
-    let e = not-false _ (c .before .before .before .before .before .before .before .if1 .left) in
-    (m .kept e, (m .chained e, (P .1 .1 .0, (refl, (P .1 .1 .1 .0, (P .1 .1 .1 .1, (P .1 .1 .1 .2, P .1 .1 .1 .3)))))))
+    let P = c .before .before .before .before .before .before .before .before .before .before .pre in
+    let m = c .before .before .before .before .before .before .before .map-fits .ensures in
+    let e = not-false _ (c .before .before .before .before .before .before .if1 .left) in
+    (m .kept e, (m .chained e, (P .1 .1 .0, (P .1 .1 .1 .0, (P .1 .1 .1 .1, (P .1 .1 .1 .2, P .1 .1 .1 .3))))))
 
 returns-2 : tie.Need-returns-2
-returns-2 c = vet-book (c .before .before .before .before .before .before .before .before .before .map-fits .ensures) (not-false _ (c .before .before .before .before .before .before .before .before .if1 .left)) (c .book-fits .ensures)
+returns-2 c = vet-book (c .before .before .before .before .before .before .before .before .map-fits .ensures) (not-false _ (c .before .before .before .before .before .before .before .if1 .left)) (c .book-fits .ensures)
 
 pub vet-spec : {M : Type 1} → statement M
 vet-spec = tie.close (tie.spec map-fits-requires returns book-fits-requires returns-2)

@@ -9,19 +9,16 @@ use Rattle.windows.proofs.all_windows.Statement.{statement}
 use Rattle.windows.proofs.all_windows.Tie as tie
 
 abbrev Inv-loop : tie.InvT-loop
-Inv-loop n count cap dur key exit rows₀ start₀ end₀ place₀ first₀ a₀ w₀ p₀ rows start end place first a w p = Going n count cap dur key exit p a w rows start end place first
+Inv-loop n count cap dur key tail start₀ end₀ place₀ first₀ a₀ w₀ p₀ start end place first a w p = Going n count cap dur key tail p a w start end place first
 
 abbrev μ-loop : tie.MeasureT-loop
-μ-loop n count cap dur key exit rows₀ start₀ end₀ place₀ first₀ a₀ w₀ p₀ rows start end place first a w p = n - p
-
-element-write-rows : tie.Need-element-write-rows Inv-loop μ-loop
-element-write-rows c = search needs
+μ-loop n count cap dur key tail start₀ end₀ place₀ first₀ a₀ w₀ p₀ start end place first a w p = n - p
 
 element-write-first : tie.Need-element-write-first Inv-loop μ-loop
 element-write-first c = search needs
 
 loop-holds : tie.Need-loop-holds Inv-loop μ-loop
-loop-holds c = going-none (c .args .rows .now) (c .args .first .now) (c .pre .1 .0) (c .pre .1 .1 .0) (c .pre .1 .1 .1 .0) (c .pre .1 .1 .1 .1 .0) (c .pre .1 .1 .1 .1 .1)
+loop-holds c = going-none (c .args .first .now) (c .pre .1 .0) (c .pre .1 .1 .0) (c .pre .1 .1 .1 .0) (c .pre .1 .1 .1 .1)
 
 past-requires : tie.Need-past-requires Inv-loop μ-loop
 past-requires c κs = (c .before .loop .inv .within, c .before .before .pre .0 .rows)
@@ -60,15 +57,6 @@ returns c =
 add-p : tie.Need-add-p Inv-loop μ-loop
 add-p c = search needs
 
-cast-rows : tie.Need-cast-rows Inv-loop μ-loop
-cast-rows c = search needs
-
-mul-rows : tie.Need-mul-rows Inv-loop μ-loop
-mul-rows c = search needs
-
-element-write-rows-2 : tie.Need-element-write-rows-2 Inv-loop μ-loop
-element-write-rows-2 c = search needs
-
 cast-first : tie.Need-cast-first Inv-loop μ-loop
 cast-first c = search needs
 
@@ -99,7 +87,6 @@ all-windows-spec =
     (tie.spec
     Inv-loop
     μ-loop
-    element-write-rows
     element-write-first
     loop-holds
     past-requires
@@ -111,9 +98,6 @@ all-windows-spec =
     sweep-requires
     returns
     add-p
-    cast-rows
-    mul-rows
-    element-write-rows-2
     cast-first
     mul-first
     element-write-first-2

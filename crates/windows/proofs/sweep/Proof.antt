@@ -15,11 +15,11 @@ use Rattle.windows.proofs.sweep.Statement.{statement}
 use Rattle.windows.proofs.sweep.Tie as tie
 
 abbrev Inv-loop : tie.InvT-loop
-Inv-loop key exit a b c d p from start₀ end₀ place₀ n top₀ low₀ w₀ free₀ i₀ start end place top low w free i =
-    (i ≤ n) × State (entriesFrom key a) (exitsFrom exit a) c d p from (spanAt place₀ start₀ end₀) i top low free w start end place
+Inv-loop key tail a b c d p from start₀ end₀ place₀ n top₀ low₀ w₀ free₀ i₀ start end place top low w free i =
+    (i ≤ n) × State (entriesFrom key a) (exitsFrom tail a) c d p from (spanAt place₀ start₀ end₀) i top low free w start end place
 
 abbrev μ-loop : tie.MeasureT-loop
-μ-loop key exit a b c d p from start₀ end₀ place₀ n top₀ low₀ w₀ free₀ i₀ start end place top low w free i = n - i
+μ-loop key tail a b c d p from start₀ end₀ place₀ n top₀ low₀ w₀ free₀ i₀ start end place top low w free i = n - i
 
 sub-n : tie.Need-sub-n Inv-loop μ-loop
 sub-n c = search needs
@@ -51,17 +51,20 @@ returns c =
     let I = c .before .before .before .before .loop .inv .1 in
     answer-over (I .len-S) (I .len-E) (I .len-P) (too-many (G .rows) (G .cap-to) (G .dur-from) I (c .before .before .before .loop-test .taken) (omega (arith, c .before .entry-of .ensures, c .if1 .taken)))
 
-add-top : tie.Need-add-top Inv-loop μ-loop
-add-top c = search needs
+add-exit-of : tie.Need-add-exit-of Inv-loop μ-loop
+add-exit-of c = search needs
+
+mul-exit-of : tie.Need-mul-exit-of Inv-loop μ-loop
+mul-exit-of c = search needs
+
+element-copy-out-exit-of : tie.Need-element-copy-out-exit-of Inv-loop μ-loop
+element-copy-out-exit-of c = search needs
+
+exit-of-requires : tie.Need-exit-of-requires Inv-loop μ-loop
+exit-of-requires c κs = search needs
 
 mul-top : tie.Need-mul-top Inv-loop μ-loop
 mul-top c = search needs
-
-element-copy-out-top : tie.Need-element-copy-out-top Inv-loop μ-loop
-element-copy-out-top c = search needs
-
-mul-top-2 : tie.Need-mul-top-2 Inv-loop μ-loop
-mul-top-2 c = search needs
 
 array-write-top : tie.Need-array-write-top Inv-loop μ-loop
 array-write-top c = search needs
@@ -104,17 +107,18 @@ loop-less c = search needs
 
 loop-again : tie.Need-loop-again Inv-loop μ-loop
 loop-again c =
-    let l = c .before .before .before .before .before .before .before .before in
+    let l = c .before .before .before .before .before .before .before .before .before in
     let G = l .before .pre .0 in
     let I = l .loop .inv .1 in
-    let h = c .before .before .before .before .before .before .before .loop-test .taken in
-    let e = c .before .before .before .before .before .entry-of .ensures in
-    let q = c .before .before .before .before .if1 .left in
-    let A = c .before .least-at .ensures in (
+    let h = c .before .before .before .before .before .before .before .before .loop-test .taken in
+    let e = c .before .before .before .before .before .before .entry-of .ensures in
+    let q = c .before .before .before .before .before .if1 .left in
+    let x = c .before .before .before .exit-of .ensures .0 in
+    let A = rw x at (c .before .least-at .ensures) in (
       omega arith,
-      ⊎-elim (λ w. rw (w .2, w .3, w .4, w .5, w .6, e) (state-more (G .rows) (G .cap-to) (G .dur-from) I h (omega (arith, e, q)) A (omega (arith, e, w .0 .taken)) (omega (arith, e, w .1 .taken)) (omega (arith, I .few))))
-          (⊎-elim (λ w. rw (w .2, w .3, w .4, w .5, w .6) (state-short (G .rows) (G .cap-to) (G .dur-from) I h (omega (arith, e, q)) A (omega (arith, e, w .0 .taken)) (omega (arith, e, w .1 .left))))
-          (λ w. rw (w .1, w .2, w .3, w .4, w .5) (state-room (G .rows) (G .cap-to) (G .dur-from) I h (omega (arith, e, q)) A (omega (arith, e, w .0 .left)))))
+      ⊎-elim (λ w. rw (w .2, w .3, w .4, w .5, w .6, e, x) (state-more (G .rows) (G .cap-to) (G .dur-from) I h (omega (arith, e, q)) A (omega (arith, e, rw x at (w .0 .taken))) (omega (arith, e, w .1 .taken)) (omega (arith, I .few))))
+          (⊎-elim (λ w. rw (w .2, w .3, w .4, w .5, w .6, x) (state-short (G .rows) (G .cap-to) (G .dur-from) I h (omega (arith, e, q)) A (omega (arith, e, rw x at (w .0 .taken))) (omega (arith, e, w .1 .left))))
+          (λ w. rw (w .1, w .2, w .3, w .4, w .5, x) (state-room (G .rows) (G .cap-to) (G .dur-from) I h (omega (arith, e, q)) A (omega (arith, e, rw x at (w .0 .left))))))
           (c .if2 .came),
     )
 
@@ -166,10 +170,11 @@ sweep-spec =
     mul-if1
     array-read-if1
     returns
-    add-top
+    add-exit-of
+    mul-exit-of
+    element-copy-out-exit-of
+    exit-of-requires
     mul-top
-    element-copy-out-top
-    mul-top-2
     array-write-top
     least-at-requires
     mul-u

@@ -8,13 +8,13 @@ use Rattle.wire.proofs.copy_rows.Statement.{statement}
 use Rattle.wire.proofs.copy_rows.Tie as tie
 
 abbrev Inv-loop : tie.InvT-loop
-Inv-loop key exit next from n out₀ j₀ out j = (j ≤ n) × Copied key exit next from j out₀ out
+Inv-loop key tail from n out₀ j₀ out j = (j ≤ n) × Copied key tail from j out₀ out
 
 abbrev μ-loop : tie.MeasureT-loop
-μ-loop key exit next from n out₀ j₀ out j = n - j
+μ-loop key tail from n out₀ j₀ out j = n - j
 
 loop-holds : tie.Need-loop-holds Inv-loop μ-loop
-loop-holds c = (omega arith, copied-start _ _ _ _ _)
+loop-holds c = (omega arith, copied-start _ _ _ _)
 
 add-row-at : tie.Need-add-row-at Inv-loop μ-loop
 add-row-at c = search needs

@@ -1,6 +1,6 @@
--- `wire::read_rows` meets its contract: after j turns the arrays hold the first j rows of the slice, eleven bytes each; what is not yet read is zero, so packed.
+-- `wire::read_rows` meets its contract: after j turns the arrays hold the first j rows of the slice, eleven bytes each; a key not yet read is zero, so packed.
 use Prim.Native.Nat.{_-_, _≤_}
-use mathlib.Core.Path.{_≡_, refl}
+use mathlib.Core.Path.{_≡_}
 use native.Mathlib.Omega.{arith}
 use Rattle.wire.specs.Reading.{RowsRead, no-rows, row-read, all-rows}
 use borrow.Author.Needs.{needs}
@@ -8,15 +8,15 @@ use Rattle.wire.proofs.read_rows.Statement.{statement}
 use Rattle.wire.proofs.read_rows.Tie as tie
 
 abbrev Inv-loop : tie.InvT-loop
-Inv-loop s count key₀ exit₀ next₀ j₀ key exit next j = (j ≤ count) × RowsRead s j key exit next
+Inv-loop s count key₀ tail₀ j₀ key tail j = (j ≤ count) × RowsRead s j key tail
 
 abbrev μ-loop : tie.MeasureT-loop
-μ-loop s count key₀ exit₀ next₀ j₀ key exit next j = count - j
+μ-loop s count key₀ tail₀ j₀ key tail j = count - j
 
 loop-holds : tie.Need-loop-holds Inv-loop μ-loop
 loop-holds c =
     let q = c .before .pre .1 .1 in
-    (omega arith, no-rows _ _ _ _ (q .0) (q .1 .0) (q .1 .1 .0) (q .1 .1 .1 .0) (q .1 .1 .1 .1))
+    (omega arith, no-rows _ _ _ (q .0) (q .1 .0) (q .1 .1))
 
 mul-at : tie.Need-mul-at Inv-loop μ-loop
 mul-at c = search needs
@@ -33,26 +33,14 @@ mul-key c = search needs
 element-write-key : tie.Need-element-write-key Inv-loop μ-loop
 element-write-key c = search needs
 
-add-three : tie.Need-add-three Inv-loop μ-loop
-add-three c = search needs
+read-tail-requires : tie.Need-read-tail-requires Inv-loop μ-loop
+read-tail-requires c κs = search needs
 
-three-requires : tie.Need-three-requires Inv-loop μ-loop
-three-requires c κs = search needs
+mul-tail : tie.Need-mul-tail Inv-loop μ-loop
+mul-tail c = search needs
 
-mul-exit : tie.Need-mul-exit Inv-loop μ-loop
-mul-exit c = search needs
-
-element-write-exit : tie.Need-element-write-exit Inv-loop μ-loop
-element-write-exit c = search needs
-
-add-next : tie.Need-add-next Inv-loop μ-loop
-add-next c = search needs
-
-shared-slice-read-next : tie.Need-shared-slice-read-next Inv-loop μ-loop
-shared-slice-read-next c = search needs
-
-element-write-next : tie.Need-element-write-next Inv-loop μ-loop
-element-write-next c = search needs
+element-write-tail : tie.Need-element-write-tail Inv-loop μ-loop
+element-write-tail c = search needs
 
 add-j : tie.Need-add-j Inv-loop μ-loop
 add-j c = search needs
@@ -62,9 +50,8 @@ loop-less c = search needs
 
 loop-again : tie.Need-loop-again Inv-loop μ-loop
 loop-again c =
-    let l = c .before .before .before .before .loop in
-    let x = c .before .three .ensures in
-    (omega arith, row-read _ _ _ (l .inv .1) (omega arith) (c .before .before .read-key .ensures) (x .0) (x .1) refl)
+    let l = c .before .before .before .loop in
+    (omega arith, row-read _ _ (l .inv .1) (omega arith) (c .before .read-key .ensures) (c .read-tail .ensures))
 
 returns : tie.Need-returns Inv-loop μ-loop
 returns c = let e : c .before .loop .j ≡ c .before .before .before .args .count = omega arith in all-rows (rw e at (c .before .loop .inv .1))
@@ -81,13 +68,9 @@ read-rows-spec =
     read-key-requires
     mul-key
     element-write-key
-    add-three
-    three-requires
-    mul-exit
-    element-write-exit
-    add-next
-    shared-slice-read-next
-    element-write-next
+    read-tail-requires
+    mul-tail
+    element-write-tail
     add-j
     loop-less
     loop-again
