@@ -40,7 +40,25 @@ extern "C" {
     ) -> u64;
 }
 
+/// The calls of a library before, linked in under these names where the bench is built with `BEFORE`.
+#[cfg(before)]
+extern "C" {
+    fn before_plan(
+        map: *const u8, map_len: usize, book: *const u8, book_len: usize, start: u32, destination: u32, second: u32,
+        answer: *mut u8, answer_len: usize,
+    ) -> u64;
+    fn before_page(
+        map: *const u8, map_len: usize, book: *const u8, book_len: usize, size: u32, place: u32, entry: u32, ticket: u32,
+        answer: *mut u8, answer_len: usize,
+    ) -> u64;
+}
+
 type Side = fn(&[u8], &[u8], Call, &mut [u8]) -> u64;
+
+#[cfg(before)]
+const BEFORE: Option<Side> = Some(before);
+#[cfg(not(before))]
+const BEFORE: Option<Side> = None;
 
 #[inline(never)]
 fn portal(map: &[u8], book: &[u8], call: Call, answer: &mut [u8]) -> u64 {
@@ -48,6 +66,16 @@ fn portal(map: &[u8], book: &[u8], call: Call, answer: &mut [u8]) -> u64 {
     match call {
         Call::Plan { start, destination, second } => unsafe { lanebook_plan(m, k, b, c, start, destination, second, a, l) },
         Call::Page { size, place, entry, ticket } => unsafe { lanebook_page(m, k, b, c, size, place, entry, ticket, a, l) },
+    }
+}
+
+#[cfg(before)]
+#[inline(never)]
+fn before(map: &[u8], book: &[u8], call: Call, answer: &mut [u8]) -> u64 {
+    let (m, k, b, c, a, l) = (map.as_ptr(), map.len(), book.as_ptr(), book.len(), answer.as_mut_ptr(), answer.len());
+    match call {
+        Call::Plan { start, destination, second } => unsafe { before_plan(m, k, b, c, start, destination, second, a, l) },
+        Call::Page { size, place, entry, ticket } => unsafe { before_page(m, k, b, c, size, place, entry, ticket, a, l) },
     }
 }
 
@@ -97,35 +125,41 @@ fn turn(side: Side, scene: &Scene, repeat: usize, answer: &mut [u8]) -> f64 {
     (clock::own() - begin) / (repeat * scene.calls.len()) as f64
 }
 
-/// Medians of both sides, and the greater of their quartiles' distances as a part of the median.
-struct Figures {
-    ours: f64,
-    peer: f64,
+/// A side's median, and the distance of its quartiles as a part of the median.
+struct Figure {
+    median: f64,
     spread: f64,
 }
 
-impl Figures {
-    fn of(ours: Vec<f64>, peer: Vec<f64>) -> Figures {
-        let (one, quartiles) = clock::median(ours);
-        let (other, other_quartiles) = clock::median(peer);
-        Figures { ours: one, peer: other, spread: (quartiles / one).max(other_quartiles / other) }
+impl Figure {
+    fn of(times: Vec<f64>) -> Figure {
+        let (median, quartiles) = clock::median(times);
+        Figure { median, spread: quartiles / median }
     }
 }
 
-/// Times both sides in alternation.
-fn timed(scene: &Scene) -> Figures {
+/// The greatest spread of all sides, in parts of a hundred.
+fn spread(figures: &[Figure]) -> f64 {
+    figures.iter().map(|figure| figure.spread * 100.0).fold(0.0, f64::max)
+}
+
+/// Times all sides in alternation.
+fn timed(scene: &Scene, sides: &[Side]) -> Vec<Figure> {
     let mut answer = vec![0u8; LIST];
-    let mut repeat = |side: Side| {
-        let once = turn(side, scene, 1, &mut answer).min(turn(side, scene, 1, &mut answer));
-        ((TURN / once) as usize / scene.calls.len()).max(1)
-    };
-    let (ours, theirs) = (repeat(portal), repeat(peer));
-    let (mut one, mut other) = (Vec::new(), Vec::new());
+    let repeats: Vec<usize> = sides
+        .iter()
+        .map(|&side| {
+            let once = turn(side, scene, 1, &mut answer).min(turn(side, scene, 1, &mut answer));
+            ((TURN / once) as usize / scene.calls.len()).max(1)
+        })
+        .collect();
+    let mut times = vec![Vec::new(); sides.len()];
     for _ in 0..ROUNDS {
-        one.push(turn(portal, scene, ours, &mut answer));
-        other.push(turn(peer, scene, theirs, &mut answer));
+        for (at, &side) in sides.iter().enumerate() {
+            times[at].push(turn(side, scene, repeats[at], &mut answer));
+        }
     }
-    Figures::of(one, other)
+    times.into_iter().map(Figure::of).collect()
 }
 
 /// Prints a line and keeps it for the report.
@@ -135,15 +169,23 @@ fn say(report: &mut String, line: String) {
     report.push('\n');
 }
 
+/// Two columns more where there is a library before: its times, and the portal's by them.
 fn table(scenes: &[Scene], report: &mut String) {
-    say(report, "| Scenario | Places | Links | Rows | Portal, µs | Peer, µs | Ratio | Spread |".to_string());
-    say(report, "|---|--:|--:|--:|--:|--:|--:|--:|".to_string());
+    let (names, rule) = if BEFORE.is_some() { (" Before, µs | By before |", "--:|--:|") } else { ("", "") };
+    say(report, format!("| Scenario | Places | Links | Rows | Portal, µs | Peer, µs | Ratio |{} Spread |", names));
+    say(report, format!("|---|--:|--:|--:|--:|--:|--:|{}--:|", rule));
+    let mut sides: Vec<Side> = vec![portal, peer];
+    sides.extend(BEFORE);
     for scene in scenes {
-        let got = timed(scene);
-        let (ours, peer, spread) = (got.ours / 1e3, got.peer / 1e3, got.spread * 100.0);
+        let got = timed(scene, &sides);
+        let (ours, peer) = (got[0].median / 1e3, got[1].median / 1e3);
         let size = format!("{} | {} | {}", scene.places, scene.links, scene.rows);
-        let times = format!("{:.2} | {:.2} | {:.2} | {:.0} %", ours, peer, ours / peer, spread);
-        say(report, format!("| {} | {} | {} |", scene.name, size, times));
+        let mut times = format!("{:.2} | {:.2} | {:.2}", ours, peer, ours / peer);
+        if let Some(before) = got.get(2) {
+            let before = before.median / 1e3;
+            times.push_str(&format!(" | {:.2} | {:.2}", before, ours / before));
+        }
+        say(report, format!("| {} | {} | {} | {:.0} % |", scene.name, size, times, spread(&got)));
     }
 }
 
@@ -181,17 +223,17 @@ fn frame_table(lanebook: &str, peer: &str, frames: &str, report: &mut String) {
     say(report, format!("| {} mixed frames | lanebook, µs a frame | Peer, µs a frame | Ratio | Spread |", count));
     say(report, "|---|--:|--:|--:|--:|".to_string());
     for (name, times) in [("peer as it is", plain), ("peer that tests map and book at each question", testing)] {
-        let got = Figures::of(ours.clone(), times);
-        let (ours, peer, spread) = (got.ours / 1e3, got.peer / 1e3, got.spread * 100.0);
-        say(report, format!("| {} | {:.2} | {:.2} | {:.2} | {:.0} % |", name, ours, peer, ours / peer, spread));
+        let got = [Figure::of(ours.clone()), Figure::of(times)];
+        let (ours, peer) = (got[0].median / 1e3, got[1].median / 1e3);
+        say(report, format!("| {} | {:.2} | {:.2} | {:.2} | {:.0} % |", name, ours, peer, ours / peer, spread(&got)));
     }
 }
 
 const HEAD: &str = "# Figures
 
 Written by `bench/run`. The portal's static library beside a plain Rust program that does the same work on the same slices,
-map and book tested at each call: medians of the processor time of a call, both sides in alternation in one run, every answer
-compared. Ratio is portal by peer; spread is the distance of the quartiles as a part of the median, the greater of both sides.
+map and book tested at each call: medians of the processor time of a call, all sides in alternation in one run, every answer
+compared. Ratio is portal by peer; spread is the distance of the quartiles as a part of the median, the greatest of all sides.
 
 Where the linker puts the library's code counts too: the same library was up to a quarter slower at 32 mod 64 than at 0, 16 or
 48. Compare only figures of one placement.
@@ -206,6 +248,8 @@ fn time(report: &str, scenes: &[Scene], programs: &[&str]) {
     let mut text = String::from(HEAD);
     text.push('\n');
     say(&mut text, format!("In this run planning's code begins at {} mod 64.\n", lanebook_plan as *const () as usize % 64));
+    #[cfg(before)]
+    say(&mut text, format!("Before is the library before, whose planning begins at {} mod 64.\n", before_plan as *const () as usize % 64));
     table(scenes, &mut text);
     if let &[lanebook, peer, frames] = programs {
         text.push_str(FRAMES_HEAD);

@@ -1,6 +1,8 @@
-//! The scenarios, made from a seed. Every book is made by planning and booking with the peer, so that it is well formed.
+//! The scenarios, made from a seed. A book is made by planning and booking with the peer, so that it is well formed; the
+//! shuttles' books are written run by run, and the peer tests them.
 
-use crate::barn::{push, Book, Map, Row, MOST_ON_PAGE};
+use crate::barn::{push, Book, Map, Row, MOST_ON_PAGE, MOST_ROWS, PACKED_ROW};
+use crate::calls;
 use crate::dice::Dice;
 use crate::plan::{chosen, Crossings, Windows};
 
@@ -24,6 +26,21 @@ pub struct Scene {
 pub const OPEN: u32 = 21_600;
 pub const CLOSE: u32 = 36_000;
 const CALLS: usize = 24;
+
+/// The places of the shuttles' barn; stalls follow the passage.
+const KITCHEN: u32 = 0;
+const GATE: u32 = 1;
+const STABLE: u32 = 2;
+const PASSAGE: u32 = 3;
+/// The shuttles, the seconds from one turn of them to the next, and the second at which they set out.
+const SHUTTLES: u32 = 7;
+const WAY: u32 = SHUTTLES + 1;
+const SET_OUT: u32 = OPEN + CALLS as u32;
+
+/// The least stay at a stall: a second less at each, and longer than the shuttles run.
+fn stall_stay(stall: u32) -> u32 {
+    1_400 - stall
+}
 
 /// A map in the making: packed places, and links.
 pub struct Plot {
@@ -87,6 +104,32 @@ impl Plot {
         plot
     }
 
+    /// Kitchen and gate, both with room for the shuttles and one wagon more, and behind the gate the stable, where a single
+    /// wagon stays for longer than they run.
+    fn shuttle() -> Plot {
+        let mut plot = Plot { places: Vec::new(), links: Vec::new() };
+        for (capacity, duration) in [(WAY, 1), (WAY, 1), (1, 1_500)] {
+            plot.place(capacity, duration);
+        }
+        for (from, to) in [(KITCHEN, GATE), (GATE, KITCHEN), (GATE, STABLE)] {
+            plot.link(from as usize, to as usize);
+        }
+        plot
+    }
+
+    /// A passage from the gate to so many stalls, each with links to kitchen and gate.
+    fn add_stalls(&mut self, stalls: u32) {
+        self.place(1, 1);
+        self.link(GATE as usize, PASSAGE as usize);
+        for stall in 0..stalls {
+            let at = (PASSAGE + 1 + stall) as usize;
+            self.place(2, stall_stay(stall));
+            self.link(PASSAGE as usize, at);
+            self.link(at, KITCHEN as usize);
+            self.link(at, GATE as usize);
+        }
+    }
+
     fn packed_links(&self) -> Vec<u8> {
         self.links.iter().flat_map(|&(from, to)| [from, to]).collect()
     }
@@ -132,6 +175,19 @@ impl Yard {
             }
             _ => false,
         }
+    }
+
+    /// Books a run as given: places and the seconds at which they are entered.
+    fn book_run(&mut self, stays: &[(u32, u32)]) {
+        let (last, entry) = stays[stays.len() - 1];
+        let (mut next, mut exit) = (last as u8, entry + self.map.places[last as usize].duration);
+        let mut run = Vec::new();
+        for &(place, entry) in stays.iter().rev() {
+            run.push(Row { place: place as u8, entry, ticket: 0, exit, next });
+            (next, exit) = (place as u8, entry);
+        }
+        self.book.add(&run, self.next_ticket);
+        self.next_ticket += 1;
     }
 
     fn some_second(&mut self) -> u32 {
@@ -263,6 +319,53 @@ fn growth(seed: u64) -> Vec<Scene> {
     scenes
 }
 
+/// The scene, once the peer has found its book well formed and a plan for each request.
+fn tested(scene: Scene) -> Scene {
+    let mut answer = vec![0; MOST_ROWS * PACKED_ROW];
+    for &call in &scene.calls {
+        if let Call::Plan { start, destination, second } = call {
+            let got = calls::plan(&scene.map, &scene.book, start, destination, second, &mut answer);
+            assert!(got >> 32 == 0, "{}: refusal {} at {}", scene.name, got >> 32, second);
+        }
+    }
+    scene
+}
+
+/// The worst book found for a planner that learns whether a crossing is barred by reading the earlier rows of the place ahead,
+/// and reads them only where some row enters the place it leaves at that second.
+///
+/// The shuttles go from gate to kitchen one a second, then back the same way, and so on. Between two ways a stay of one second
+/// fills the place they have come to and so ends its window. A request begins at the kitchen while the gate is full, and its
+/// destination opens when the shuttles have ended. They come towards it at every second but the last at which its window may
+/// be left; it crosses then, and they turn. So each crossing in the book bars it once, and each time it reads nearly all
+/// earlier rows of the place ahead, half of the book so far.
+///
+/// With stalls it reads more rows yet. It gets to all of them at one second, and each in turn offers a sooner entry into the
+/// last windows of kitchen and gate, at the second at which the stall's only row enters it. So all rows of both places are
+/// read for that one row.
+fn shuttle(name: &str, ways: u32, stalls: u32) -> Scene {
+    let mut plot = Plot::shuttle();
+    if stalls > 0 {
+        plot.add_stalls(stalls);
+    }
+    let mut yard = Yard::new(Dice::new(1), plot);
+    let entered = |way: u32, turn: u32| ([KITCHEN, GATE][way as usize % 2], SET_OUT + way * WAY + turn);
+    yard.book_run(&[(GATE, OPEN), (STABLE, SET_OUT)]);
+    for wagon in 0..SHUTTLES {
+        let mut stays = vec![(GATE, OPEN)];
+        stays.extend((0..ways).map(|way| entered(way, wagon)));
+        yard.book_run(&stays);
+    }
+    for way in 1..ways {
+        yard.book_run(&[entered(way - 1, SHUTTLES)]);
+    }
+    for stall in 0..stalls {
+        yard.book_run(&[(PASSAGE + 1 + stall, SET_OUT + WAY + 1 + stall_stay(stall))]);
+    }
+    let calls = (OPEN..SET_OUT).map(|second| Call::Plan { start: KITCHEN, destination: STABLE, second }).collect();
+    tested(yard.scene(name, calls))
+}
+
 pub fn all(seed: u64) -> Vec<Scene> {
     let [plans, pages, refusals] = full(seed + 3);
     let mut scenes = vec![
@@ -276,5 +379,7 @@ pub fn all(seed: u64) -> Vec<Scene> {
         refusals,
     ];
     scenes.extend(growth(seed + 6));
+    scenes.push(shuttle("barred all along", 124, 0));
+    scenes.push(shuttle("barred all along, 248 stalls", 93, 248));
     scenes
 }
