@@ -10,10 +10,9 @@ use lib.ListN.{length, getD, set, length-set}
 use Rattle.laws.specs.Order.{lt-or-ge}
 use Rattle.laws.specs.Tests.{not-both}
 use Rattle.laws.specs.Lists.{at}
-use Rattle.rules.specs.Rows.{crosses}
+use Rattle.rules.specs.Rows.{barred}
 use Rattle.flat.specs.Flat.{placeOf, exitOf, nextOf, rowsIn}
-use Rattle.flat.specs.Crossings.{array-crosses}
-use Rattle.lookup.specs.Crossings.{crossing-goes}
+use Rattle.lookup.specs.Crossings.{goes-bars, barred-goes}
 use Rattle.bookfit.specs.Each.{Each}
 use Rattle.bookfit.specs.Join.{IsLast}
 use Rattle.bookfit.specs.Marks.{mark-set, mark-kept}
@@ -34,17 +33,20 @@ pub record Opposed (K X : ℕ → ℕ) (count i : ℕ) : Type 0 where
 abbrev pub Unopposed : (ℕ → ℕ) → (ℕ → ℕ) → ℕ → Type 0
 Unopposed K X count = Each (λ i. Opposed K X count i → ⊥) count
 
--- a crossing of the rows back from the next place of row i, which goes on, is a row against it
+-- what bars the crossing of row i, which goes on, is a row against it
 module _ (K X : List ℕ) (count i : ℕ) where
-  pub crossed-opposed : (IsLast (at K i) (at X i) → ⊥) → crosses (rowsIn K X count) (nextOf (at X i)) (placeOf (at K i)) (exitOf (at X i)) ≡ true → Opposed (at K) (at X) count i
-  crossed-opposed g h =
-      let c = crossing-goes K X count (nextOf (at X i)) (placeOf (at K i)) (exitOf (at X i)) h in
+  abbrev pub rowBarred : Bool
+  rowBarred = barred (rowsIn K X count) (placeOf (at K i)) (nextOf (at X i)) (exitOf (at X i))
+
+  pub barred-opposed : (IsLast (at K i) (at X i) → ⊥) → rowBarred ≡ true → Opposed (at K) (at X) count i
+  barred-opposed g h =
+      let c = barred-goes K X count (nextOf (at X i)) (placeOf (at K i)) (exitOf (at X i)) h in
       record { goes-on = g; by = c .0; within = c .1; against = record { place = c .2 .from; next = c .2 .to; exit = c .2 .when } }
 
-  pub opposed-crossed : Opposed (at K) (at X) count i → crosses (rowsIn K X count) (nextOf (at X i)) (placeOf (at K i)) (exitOf (at X i)) ≡ true
-  opposed-crossed o =
+  pub opposed-barred : Opposed (at K) (at X) count i → rowBarred ≡ true
+  opposed-barred o =
       let a = o .against in
-      array-crosses K X count (nextOf (at X i)) (placeOf (at K i)) (exitOf (at X i)) (o .by) (o .within) (a .place) (a .next) (a .exit)
+      goes-bars K X count (nextOf (at X i)) (placeOf (at K i)) (exitOf (at X i)) (o .by) (o .within) (record { from = a .place; to = a .next; when = a .exit })
 
 -- ---- the slots
 

@@ -7,18 +7,18 @@ use mathlib.Core.Bool.{false}
 use mathlib.Core.List.{List, List·Memᴰ}
 use native.Mathlib.Omega.{arith}
 use Rattle.laws.specs.Order.{lt-or-ge}
-use Rattle.laws.specs.Tests.{not-both}
+use Rattle.laws.specs.Tests.{true-or-false, not-both}
 use Rattle.laws.specs.Lists.{at, mem-index, index-mem}
 use Rattle.rules.specs.declared.Row.{Row}
 use Rattle.rules.specs.Map.{Yard}
-use Rattle.rules.specs.Rows.{noRow, crosses}
-use Rattle.flat.specs.Flat.{placeOf, ticketOf, exitOf, nextOf, rowOf, rowsIn, KeysRise}
+use Rattle.rules.specs.Rows.{noRow, barred}
+use Rattle.rules.specs.Book.{Unbarred}
+use Rattle.flat.specs.Flat.{ticketOf, exitOf, nextOf, rowOf, rowsIn, KeysRise}
 use Rattle.flat.specs.Laws.{rows-long, row-in}
-use Rattle.flat.specs.Crossings.{array-crosses, array-clear}
 use Rattle.chains.specs.Test.{Last, Successor, RowOk, Tested}
 use Rattle.bookfit.specs.Join.{nextKey, IsLast, Found, Joined, OneLast}
 use Rattle.bookfit.specs.Rows.{RowsFit}
-use Rattle.bookfit.specs.Against.{Unopposed}
+use Rattle.bookfit.specs.Against.{Unopposed, rowBarred, barred-opposed, opposed-barred}
 use Rattle.bookfit.specs.Keys.{same-key, key-next, next-parts, same-next, next-same}
 
 -- two indices of which neither is below the other
@@ -46,23 +46,16 @@ module _ (K X : List ℕ) (count : ℕ) where
 
   -- ---- the exchange rule
 
-  pub unopposed-exchange : Unopposed (at K) (at X) count
-      → (r : Row) → List·Memᴰ r (rowsIn K X count) → (r .next ≡ r .place → ⊥) → crosses (rowsIn K X count) (r .next) (r .place) (r .exit) ≡ false
-  unopposed-exchange U r m g = let u = index r m in subst (λ (x : Row). crosses (rowsIn K X count) (x .next) (x .place) (x .exit) ≡ false) (u .is) (clear u)
+  pub unopposed-exchange : Unopposed (at K) (at X) count → Unbarred (rowsIn K X count)
+  unopposed-exchange U r m g = let u = index r m in subst (λ (x : Row). barred (rowsIn K X count) (x .place) (x .next) (x .exit) ≡ false) (u .is) (clear u)
     where
-      clear : (u : Index r) → crosses (rowsIn K X count) (nextOf (at X (u .i))) (placeOf (at K (u .i))) (exitOf (at X (u .i))) ≡ false
+      clear : (u : Index r) → rowBarred K X count (u .i) ≡ false
       clear u =
-          array-clear K X count (nextOf (at X (u .i))) (placeOf (at K (u .i))) (exitOf (at X (u .i))) (λ j h a b c.
-          U .each (u .i) (u .h) (record { goes-on = λ e. g (subst Last (u .is) e); by = j; within = h; against = record { place = a; next = b; exit = c } }))
+          ⊎-elim (λ h. absurd (U .each (u .i) (u .h) (barred-opposed K X count (u .i) (λ e. g (subst Last (u .is) e)) h))) (λ h. h)
+          (true-or-false (rowBarred K X count (u .i)))
 
-  pub exchange-unopposed : ((r : Row) → List·Memᴰ r (rowsIn K X count) → (r .next ≡ r .place → ⊥) → crosses (rowsIn K X count) (r .next) (r .place) (r .exit) ≡ false)
-      → Unopposed (at K) (at X) count
-  exchange-unopposed f = record {
-    each = λ i h o.
-        let a = o .against in
-        not-both (array-crosses K X count (nextOf (at X i)) (placeOf (at K i)) (exitOf (at X i)) (o .by) (o .within) (a .place) (a .next) (a .exit))
-        (f (rowOf (at K i) (at X i)) (member i h) (o .goes-on));
-  }
+  pub exchange-unopposed : Unbarred (rowsIn K X count) → Unopposed (at K) (at X) count
+  exchange-unopposed f = record { each = λ i h o. not-both (opposed-barred K X count i o) (f (row i) (member i h) (o .goes-on)) }
 
   -- ---- chains
 

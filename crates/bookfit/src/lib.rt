@@ -1,5 +1,7 @@
 // Whether rows given as arrays of numbers are a well-formed book: each test looks through the arrays once, or only where it must.
 // Keys are packed, so that the order of keys is the order of numbers.
+use rules::Book;
+use rules::Map;
 ghost use mathlib.Core.Path.{_≡_};
 ghost use mathlib.Core.Bool.{true};
 ghost use Prim.Native.Nat.{ℕ, _+_, _≤_, _<_, _%_};
@@ -15,6 +17,9 @@ ghost use Rattle.bookfit.specs.Rows.{TicketFits, TicketsFit, RowFits, Ro
 ghost use Rattle.bookfit.specs.Against.{Opposed, Unopposed, crossSlot};
 ghost use Rattle.bookfit.specs.Formed.{Sound};
 ghost use Rattle.bookfit.specs.Answer.{BookFits};
+
+// The day's end, as wide as a key.
+const DAY: u64 = Map::DAY as u64;
 
 // ---- the rows of a ticket are one run
 
@@ -218,7 +223,7 @@ fn row_fits(
     if p >= n {
         return false;
     }
-    if x > 86400 {
+    if x > DAY {
         return false;
     }
     if x < least {
@@ -330,13 +335,13 @@ fn rows_sound(
     requires { ⌜ Packed (now key) ⌝ }
     ensures { λ r. ⌜ Decides r (Sound (now (dur .entry)) n (now (from .entry)) (now (to .entry)) k (now (key .entry)) (now (tail .entry)) count «next_ticket») ⌝ }
 {
-    if count > 1024 {
+    if count > Book::ROWS {
         return false;
     }
     if next_ticket < 1 {
         return false;
     }
-    if next_ticket > 1000000 {
+    if next_ticket > Book::TICKETS {
         return false;
     }
     if !rising(key, count) {
@@ -354,7 +359,7 @@ fn rows_sound(
     one_last_row(key, tail, count)
 }
 
-// The number of free windows of a well-formed book, which stand in the lent arrays place after place; 1,281 where the book is not well formed.
+// The number of free windows of a well-formed book, which stand in the lent arrays place after place; windows::NONE where the book is not well formed.
 pub fn book_fits(
     n: usize,
     k: usize,
@@ -396,14 +401,14 @@ pub fn book_fits(
         key,
         tail,
     ) {
-        return 1281;
+        return windows::NONE;
     }
     let w = windows::all_windows(n, count, cap, dur, key, tail, start, end, place, first);
-    if w == 1281 {
-        return 1281;
+    if w == windows::NONE {
+        return windows::NONE;
     }
     if !exchange_kept(key, tail, count) {
-        return 1281;
+        return windows::NONE;
     }
     w
 }

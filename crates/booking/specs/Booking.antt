@@ -10,26 +10,15 @@ use Rattle.rules.specs.declared.Map.{Map}
 use Rattle.rules.specs.declared.Book.{Book}
 use Rattle.rules.specs.declared.Booking.{Booking}
 use Rattle.rules.specs.declared.Booked.the-variants.{Done, Refused}
-use Rattle.rules.specs.declared.Refusal.the-variants.{BadMap, BadBook, OffMap, OffDay, NoPlan, FullBook, NoTickets}
-use Rattle.rules.specs.Limits.{day, rowLimit, ticketLimit}
+use Rattle.rules.specs.declared.Refusal.{Refusal}
+use Rattle.rules.specs.declared.Refusal.the-variants.{OffMap, OffDay, NoPlan, FullBook, NoTickets}
 use Rattle.rules.specs.Map.{Yard, GoodMap, mapYard}
 use Rattle.rules.specs.Rows.{insertAll}
 use Rattle.rules.specs.Plan.{Stay, Permitted, arrival, runRows}
 use Rattle.rules.specs.Book.{GoodBook, rowsOf, bookOf}
 use Rattle.rules.specs.Chosen.{Chosen}
-use Rattle.rules.specs.Answer.{Unless, BookIs, BookRefused, BookDone}
-
--- "book 1, 2, 3, 4, 8, 5, 7": what is said where map and book are sound
-module _ (Y : Yard) (rows : List Row) (b : Book) (start dest s : ℕ) (r : Booking) where
-  abbrev pub BookSound : Type 0
-  BookSound =
-      Unless ((start < Y .places) × (dest < Y .places)) (BookRefused 3 b r)
-      (Unless (s ≤ day) (BookRefused 4 b r)
-      (Unless (b .«next_ticket» < ticketLimit) (BookRefused 8 b r)
-      (Unless ((plan : List Stay) × Permitted Y rows start dest s plan) (BookRefused 5 b r)
-      ((plan : List Stay) × Chosen Y rows start dest s plan
-      × Unless (b .count + length plan ≤ rowLimit) (BookRefused 7 b r)
-      (BookDone plan b r)))))
+use Rattle.rules.specs.Gate.Checked.{sound}
+use Rattle.rules.specs.Answer.{number, BookIs, BookSound, BookRefused}
 
 -- ---- the answers
 
@@ -61,15 +50,11 @@ module _ {Y : Yard} {b : Book} {start dest s : ℕ} where
           book-done h ea ec e up =
               inr (on, inr (in-day, inr (before, inr ((plan, P), (plan, C, inr (h, record { code = refl; issues = refl; arrives = sym ea; counts = sym ec; holds = up (insertAll (runRows (b .«next_ticket») plan) (rowsOf b)) (b .«next_ticket») e }))))))
 
--- ---- with the map and the book tested first
+-- ---- at the gate
 
-module _ {m : Map} {b : Book} {start dest s : ℕ} where
-  pub book-bad-map : (GoodMap m → ⊥) → BookIs m b start dest s (record { book = b; answer = Refused BadMap })
-  book-bad-map h = inl (h, record { code = refl; issues = refl; arrives = refl; counts = refl; holds = refl })
+pub book-refused : {b : Book} {x : Refusal} (n : ℕ) → number x ≡ n → BookRefused n b (record { book = b; answer = Refused x })
+book-refused n h = record { code = h; issues = refl; arrives = refl; counts = refl; holds = refl }
 
-  module _ (M : GoodMap m) where
-    pub book-bad-book : (GoodBook (mapYard m) b → ⊥) → BookIs m b start dest s (record { book = b; answer = Refused BadBook })
-    book-bad-book h = inr (M, inl (h, record { code = refl; issues = refl; arrives = refl; counts = refl; holds = refl }))
-
-    pub book-sound-is : {Y : Yard} {r : Booking} → GoodBook (mapYard m) b → Y ≡ mapYard m → BookSound Y (rowsOf b) b start dest s r → BookIs m b start dest s r
-    book-sound-is {r = r} G e x = inr (M, inr (G, subst (λ (y : Yard). BookSound y (rowsOf b) b start dest s r) e x))
+pub book-sound-is : {m : Map} {b : Book} {start dest s : ℕ} {Y : Yard} {r : Booking} → GoodMap m → GoodBook (mapYard m) b → Y ≡ mapYard m
+    → BookSound Y (rowsOf b) b start dest s r → BookIs m b start dest s r
+book-sound-is {b = b} {start} {dest} {s} {r = r} M G e x = sound M G (subst (λ (y : Yard). BookSound y (rowsOf b) b start dest s r) e x)

@@ -8,23 +8,23 @@ use rules::Cursor;
 use rules::Issued;
 use rules::Map;
 use rules::Refusal;
+use vet::Verdict;
 ghost use mathlib.Core.Path.{_≡_};
-ghost use Prim.Native.Nat.{ℕ};
+ghost use Prim.Native.Nat.{ℕ, _≤_};
 ghost use lib.ListN.{length, take};
 ghost use Rattle.laws.specs.Lists.{at};
 ghost use Rattle.rules.specs.Rows.{insertAll};
 ghost use Rattle.rules.specs.Plan.{runRows};
 ghost use Rattle.rules.specs.Book.{rowsOf, bookOf};
-ghost use Rattle.rules.specs.Answer.{BookIs, CancelIs};
+ghost use Rattle.rules.specs.Limits.{rowLimit};
+ghost use Rattle.rules.specs.Answer.{BookSound, BookIs, CancelSound, CancelIs};
 ghost use Rattle.flat.specs.Flat.{yardIn};
 ghost use Rattle.planner.specs.Choice.{planOf};
 ghost use Rattle.planner.specs.Route.{PathFits};
 ghost use Rattle.ledger.specs.Inserting.{Inserting};
 ghost use Rattle.booking.specs.Survey.{Surveyed, Ready};
-ghost use Rattle.booking.specs.Booking.{BookSound};
 
-// Map and book written to arrays and vetted: 1,282 where the map breaks a rule, 1,281 where the book is not well formed on it, else the number
-// of free windows.
+// Map and book written to arrays and vetted.
 fn survey(
     m: Map,
     b: Book,
@@ -40,7 +40,7 @@ fn survey(
     start: &mut [u32; 1280],
     end: &mut [u32; 1280],
     first: &mut [u16; 257],
-) -> usize
+) -> Verdict
     requires { ⌜ (length (now cap) ≡ 256) × (length (now dur) ≡ 256) × (length (now from) ≡ 1024) × (length (now to) ≡ 1024) ⌝ }
     requires { ⌜ (length (now head) ≡ 256) × (length (now chain) ≡ 1024) × ((p : ℕ) → at (now head) p ≡ 0) ⌝ }
     requires { ⌜ (length (now key) ≡ 1024) × (length (now tail) ≡ 1024) ⌝ }
@@ -51,7 +51,7 @@ fn survey(
     flatten::flat_places(m, cap, dur);
     flatten::flat_links(m, from, to);
     let count = flatten::read_book(b, key, tail);
-    vet::vet(
+    let found = vet::vet(
         m.place_count,
         m.link_count,
         cap,
@@ -68,7 +68,8 @@ fn survey(
         end,
         place,
         first,
-    )
+    );
+    vet::judged(found)
 }
 
 // The rows of a path under a ticket put into the book, one after the other: the rows above a new one move up, the last first.
@@ -231,7 +232,7 @@ pub fn book(m: Map, b: Book, start: u32, destination: u32, second: u32) -> Booki
     let mut begin = [0u32; 1280];
     let mut end = [0u32; 1280];
     let mut first = [0u16; 257];
-    let w = survey(
+    let v = survey(
         m,
         b,
         &mut cap,
@@ -247,39 +248,53 @@ pub fn book(m: Map, b: Book, start: u32, destination: u32, second: u32) -> Booki
         &mut end,
         &mut first,
     );
-    if w >= 1282 {
-        return Booking {
+    match v {
+        Verdict::Refused(r) => Booking {
             book: b,
-            answer: Booked::Refused(Refusal::BadMap),
+            answer: Booked::Refused(r),
+        },
+        Verdict::Sound(w) => book_sound(
+            m.place_count,
+            m.link_count,
+            w,
+            &cap,
+            &dur,
+            &from,
+            &to,
+            &head,
+            &chain,
+            &place,
+            &begin,
+            &end,
+            &first,
+            &key,
+            &tail,
+            b,
+            start,
+            destination,
+            second,
+        ),
+    }
+}
+
+// A ticket's rows taken out of a sound book.
+fn cancel_sound(b: Book, ticket: u32) -> Cancelling
+    requires { ⌜ b .count ≤ rowLimit ⌝ }
+    ensures { λ r. ⌜ CancelSound b ticket r ⌝ }
+{
+    let r = ledger::remove_ticket(b, ticket);
+    let c = r.count;
+    if c == 0 {
+        return Cancelling {
+            book: b,
+            answer: Cancelled::Refused(Refusal::UnknownTicket),
         };
     }
-    if w >= 1281 {
-        return Booking {
-            book: b,
-            answer: Booked::Refused(Refusal::BadBook),
-        };
+    let left = r.book;
+    Cancelling {
+        book: left,
+        answer: Cancelled::Done(c),
     }
-    book_sound(
-        m.place_count,
-        m.link_count,
-        w,
-        &cap,
-        &dur,
-        &from,
-        &to,
-        &head,
-        &chain,
-        &place,
-        &begin,
-        &end,
-        &first,
-        &key,
-        &tail,
-        b,
-        start,
-        destination,
-        second,
-    )
 }
 
 // A ticket's rows taken out of the book.
@@ -298,7 +313,7 @@ pub fn cancel(m: Map, b: Book, ticket: u32) -> Cancelling
     let mut start = [0u32; 1280];
     let mut end = [0u32; 1280];
     let mut first = [0u16; 257];
-    let w = survey(
+    let v = survey(
         m,
         b,
         &mut cap,
@@ -314,29 +329,11 @@ pub fn cancel(m: Map, b: Book, ticket: u32) -> Cancelling
         &mut end,
         &mut first,
     );
-    if w >= 1282 {
-        return Cancelling {
+    match v {
+        Verdict::Refused(r) => Cancelling {
             book: b,
-            answer: Cancelled::Refused(Refusal::BadMap),
-        };
-    }
-    if w >= 1281 {
-        return Cancelling {
-            book: b,
-            answer: Cancelled::Refused(Refusal::BadBook),
-        };
-    }
-    let r = ledger::remove_ticket(b, ticket);
-    let c = r.count;
-    if c == 0 {
-        return Cancelling {
-            book: b,
-            answer: Cancelled::Refused(Refusal::UnknownTicket),
-        };
-    }
-    let left = r.book;
-    Cancelling {
-        book: left,
-        answer: Cancelled::Done(c),
+            answer: Cancelled::Refused(r),
+        },
+        Verdict::Sound(_) => cancel_sound(b, ticket),
     }
 }

@@ -14,7 +14,7 @@ use Rattle.rules.specs.declared.Link.{Link}
 use Rattle.rules.specs.declared.Map.{Map}
 use Rattle.rules.specs.declared.Row.{Row}
 use Rattle.rules.specs.Limits.{placeLimit, linkLimit}
-use Rattle.rules.specs.Map.{Yard, yardOf, noLink, GoodMap}
+use Rattle.rules.specs.Map.{Yard, yardOf, zeroPlace, noLink, GoodMap}
 use Rattle.rules.specs.Rows.{load}
 use Rattle.rules.specs.Plan.{Stay, Permitted}
 use Rattle.rules.specs.Window.{Span}
@@ -42,7 +42,7 @@ barn = yardOf barnPlaces barnLinks
 -- the same in array form
 abbrev pub barnMap : Map
 barnMap = record {
-  places = barnPlaces ++ replicate (placeLimit - 4) (record { capacity = 0; duration = 0 });
+  places = barnPlaces ++ replicate (placeLimit - 4) zeroPlace;
   links = barnLinks ++ replicate (linkLimit - 6) noLink;
   «place_count» = 4;
   «link_count» = 6;

@@ -19,15 +19,17 @@ use Rattle.rules.specs.declared.Planned.{Planned}
 use Rattle.rules.specs.declared.Planned.the-variants.{Done, Refused}
 use Rattle.rules.specs.declared.Booked.the-variants.{Done as Issues}
 use Rattle.rules.specs.declared.Cancelled.the-variants.{Done as Removes}
+use Rattle.rules.specs.declared.Paged.{Paged}
 use Rattle.rules.specs.declared.Paged.the-variants.{Done as Shows}
 use Rattle.rules.specs.Limits.{day, rowLimit, ticketLimit, pageLimit}
-use Rattle.rules.specs.Map.{GoodMap}
 use Rattle.rules.specs.Rows.{Key, noRow, keep, insertAll}
 use Rattle.rules.specs.Plan.{Stay, stayAt, Permitted, arrival, runRows}
 use Rattle.rules.specs.Page.{pageRows, pageMore, lastKey}
 use Rattle.rules.specs.Book.{WellFormed, GoodBook, rowsOf, bookOf, ofTicket, otherTicket}
 use Rattle.rules.specs.Chosen.{Chosen}
-use Rattle.rules.specs.Answer.{written, records, PlanSays, PlanIs, BookIs, CancelIs, Known, PageSays, PageIs, CursorFits}
+use Rattle.rules.specs.Bytes.{records, written}
+use Rattle.rules.specs.Gate.Checked.{sound}
+use Rattle.rules.specs.Answer.{PlanSound, PlanIs, BookIs, CancelIs, Known, PageSound, PageIs, CursorFits}
 use Rattle.keeping.specs.Books.{rows-of-book, good-book}
 use Rattle.keeping.specs.Changes.{mem-keep}
 use Rattle.cases.specs.Checks.{every, holds, sameRows, same-rows, sameAnswer, same-answer}
@@ -163,9 +165,12 @@ module _ (h : Past) (W : WellFormed barn (rowsNow h) (nextTicket h)) where
   read : rowsOf (bookNow h) ≡ rowsNow h
   read = rows-of-book (rowsNow h) (nextTicket h)
 
-  plan-says : {start dest s : ℕ} {was out : List ℕ} {r : Planned} → PlanSays (GoodMap barnMap) (GoodBook barn (bookNow h)) barn (rowsNow h) start dest s was out r
-      → PlanIs barnMap (bookNow h) start dest s was out r
-  plan-says {start} {dest} {s} {was} {out} {r} x = subst (λ (l : List Row). PlanSays (GoodMap barnMap) (GoodBook barn (bookNow h)) barn l start dest s was out r) (sym read) x
+  -- a sound map and book, and then what is said over the past's rows
+  plan-says : {start dest s : ℕ} {was out : List ℕ} {r : Planned} → PlanSound barn (rowsNow h) start dest s was out r → PlanIs barnMap (bookNow h) start dest s was out r
+  plan-says {start} {dest} {s} {was} {out} {r} x = sound barn-good good (subst (λ (l : List Row). PlanSound barn l start dest s was out r) (sym read) x)
+
+  page-says : {size : ℕ} {k : Key} {was out : List ℕ} {r : Paged} → PageSound barn (rowsNow h) size k was out r → PageIs barnMap (bookNow h) size k was out r
+  page-says {size} {k} {was} {out} {r} x = sound barn-good good (subst (λ (l : List Row). PageSound barn l size k was out r) (sym read) x)
 
 plans-mean : (h : Past) (start dest s : ℕ) (plan : List Stay) (a : ℕ) → every (planCase h start dest s plan a) ≡ true → Plans h start dest s plan a
 plans-mean h start dest s plan a t =
@@ -174,6 +179,7 @@ plans-mean h start dest s plan a t =
     let ask = holds ts t 1 in
     let on = ltb-true start 4 (holds (askTests start dest s) ask 0) in
     let to = ltb-true dest 4 (holds (askTests start dest s) ask 1) in
+    let d = leb-true s day (holds (askTests start dest s) ask 2) in
     let A = answered h start dest s plan W to (holds ts t 2) in
     let e = eqb-true (arrival plan) a (holds ts t 3) in
     record {
@@ -182,7 +188,7 @@ plans-mean h start dest s plan a t =
       arrives = e;
       says = λ was l.
           plan-says h W
-          (inr (barn-good, inr (good h W, inr ((on, to), inr (leb-true s day (holds (askTests start dest s) ask 2), inr ((plan, A .permitted), (plan, A .chosen, inr (l, record { code = refl; arrives = sym e; counts = refl; holds = refl }))))))));
+          (inr ((on, to), inr (d, inr ((plan, A .permitted), (plan, A .chosen, inr (l, record { code = refl; arrives = sym e; counts = refl; holds = refl }))))));
     }
 
 permits-mean : (h : Past) (start dest s : ℕ) (plan : List Stay) (a : ℕ) → every (permitCase h start dest s plan a) ≡ true → Permits h start dest s plan a
@@ -197,7 +203,7 @@ permits-mean h start dest s plan a t =
 pub off-map : (h : Past) (start dest s : ℕ) → pastB h ≡ true → ((start < 4) × (dest < 4) → ⊥) → Refuses h start dest s OffMap
 off-map h start dest s t off =
     let W = past-formed h t in
-    record { formed = W; why = off; says = λ was. plan-says h W (inr (barn-good, inr (good h W, inl (off, record { code = refl; arrives = refl; counts = refl; holds = refl })))) }
+    record { formed = W; why = off; says = λ was. plan-says h W (inl (off, record { code = refl; arrives = refl; counts = refl; holds = refl })) }
 
 off-day : (h : Past) (start dest s : ℕ) → every (refuseCase h start dest s OffDay) ≡ true → Refuses h start dest s OffDay
 off-day h start dest s t =
@@ -209,7 +215,7 @@ off-day h start dest s t =
     record {
       formed = W;
       why = late;
-      says = λ was. plan-says h W (inr (barn-good, inr (good h W, inr ((on, to), inl (λ d. omega arith, record { code = refl; arrives = refl; counts = refl; holds = refl })))));
+      says = λ was. plan-says h W (inr ((on, to), inl (λ d. omega arith, record { code = refl; arrives = refl; counts = refl; holds = refl })));
     }
 
 no-way : (h : Past) (start dest s : ℕ) → every (refuseCase h start dest s NoPlan) ≡ true → Refuses h start dest s NoPlan
@@ -224,7 +230,7 @@ no-way h start dest s t =
     record {
       formed = W;
       why = none;
-      says = λ was. plan-says h W (inr (barn-good, inr (good h W, inr ((on, to), inr (d, inl (λ x. none (x .0) (x .1), record { code = refl; arrives = refl; counts = refl; holds = refl }))))));
+      says = λ was. plan-says h W (inr ((on, to), inr (d, inl (λ x. none (x .0) (x .1), record { code = refl; arrives = refl; counts = refl; holds = refl }))));
     }
 
 no-test : {X : Type 0} → every (false ∷ []) ≡ true → X
@@ -267,38 +273,33 @@ books-mean h start dest s plan k a t =
       answer = A;
       formed = subst (λ (n : ℕ). WellFormed barn (rowsNow (booked h start dest s plan)) (n + 1)) e (past-formed (booked h start dest s plan) past);
       says =
-          inr (
-            barn-good,
+          sound barn-good (good h W)
+          (inr (
+            (on, to),
             inr (
-              good h W,
+              d,
               inr (
-                (on, to),
+                before,
                 inr (
-                  d,
-                  inr (
-                    before,
+                  (plan, subst (λ (l : List Row). Permitted barn l start dest s plan) here (A .permitted)),
+                  (
+                    plan,
+                    subst (λ (l : List Row). Chosen barn l start dest s plan) here (A .chosen),
                     inr (
-                      (plan, subst (λ (l : List Row). Permitted barn l start dest s plan) here (A .permitted)),
-                      (
-                        plan,
-                        subst (λ (l : List Row). Chosen barn l start dest s plan) here (A .chosen),
-                        inr (
-                          fits,
-                          record {
-                            code = refl;
-                            issues = sym e;
-                            arrives = sym (eqb-true (arrival plan) a (holds ts t 2));
-                            counts = refl;
-                            holds = ap (λ (l : List Row). bookOf (insertAll (runRows (nextTicket h) plan) l) (nextTicket h + 1)) here;
-                          },
-                        ),
-                      ),
+                      fits,
+                      record {
+                        code = refl;
+                        issues = sym e;
+                        arrives = sym (eqb-true (arrival plan) a (holds ts t 2));
+                        counts = refl;
+                        holds = ap (λ (l : List Row). bookOf (insertAll (runRows (nextTicket h) plan) l) (nextTicket h + 1)) here;
+                      },
                     ),
                   ),
                 ),
               ),
             ),
-          );
+          ));
     }
 
 cancels-mean : (h : Past) (k n : ℕ) → every (cancelCase h k n) ≡ true → Cancels h k n
@@ -313,20 +314,15 @@ cancels-mean h k n t =
     record {
       formed = past-formed (cancelled h k) (holds ts t 0);
       says =
-          inr (
-            barn-good,
-            inr (
-              good h W,
-              inr (
-                subst (λ (l : List Row). Known l k) here (record { row = _; booked = m .0; has = eqb-true _ k (m .1) }),
-                record {
-                  code = refl;
-                  counts = sym e ∙ ap (λ (l : List Row). length (keep (ofTicket k) l)) here;
-                  holds = ap (λ (l : List Row). bookOf (keep (otherTicket k) l) (nextTicket h)) here;
-                },
-              ),
-            ),
-          );
+          sound barn-good (good h W)
+          (inr (
+            subst (λ (l : List Row). Known l k) here (record { row = _; booked = m .0; has = eqb-true _ k (m .1) }),
+            record {
+              code = refl;
+              counts = sym e ∙ ap (λ (l : List Row). length (keep (ofTicket k) l)) here;
+              holds = ap (λ (l : List Row). bookOf (keep (otherTicket k) l) (nextTicket h)) here;
+            },
+          ));
     }
 
 pages-mean : (h : Past) (size : ℕ) (k : Key) (rows : List Row) (more : Bool) → every (pageCase h size k rows more) ≡ true → Pages h size k rows more
@@ -340,26 +336,20 @@ pages-mean h size k rows more t =
       formed = W;
       shows = e;
       says = λ was l.
-          subst (λ (rs : List Row). PageSays (GoodMap barnMap) (GoodBook barn (bookNow h)) barn rs size k was (written rows was) (Shows (record { count = length rows; more = more; cursor = cursorOf (lastKey k rows) }))) (sym (read h W))
+          page-says h W
           (inr (
-            barn-good,
+            (leb-true 1 size (holds ts t 3), leb-true size pageLimit (holds ts t 4)),
             inr (
-              good h W,
+              fits,
               inr (
-                (leb-true 1 size (holds ts t 3), leb-true size pageLimit (holds ts t 4)),
-                inr (
-                  fits,
-                  inr (
-                    l,
-                    record {
-                      code = refl;
-                      counts = ap (λ (x : List Row). length x) (sym e);
-                      says = m;
-                      hands = ap (λ (x : List Row). lastKey k x) (sym e);
-                      holds = ap (λ (x : List Row). written x was) (sym e);
-                    },
-                  ),
-                ),
+                l,
+                record {
+                  code = refl;
+                  counts = ap (λ (x : List Row). length x) (sym e);
+                  says = m;
+                  hands = ap (λ (x : List Row). lastKey k x) (sym e);
+                  holds = ap (λ (x : List Row). written x was) (sym e);
+                },
               ),
             ),
           ));

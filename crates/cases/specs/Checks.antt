@@ -1,6 +1,6 @@
 -- Tests put together: a list of tests that all hold, one test under another, and what each then says.
 use Prim.Native.Nat.{ℕ, zero, suc}
-use mathlib.Core.Path.{_≡_, refl, sym}
+use mathlib.Core.Path.{_≡_, refl, sym, ap₂}
 use mathlib.Core.Logic.{⊎-elim}
 use mathlib.Core.Bool.{Bool, true, false, _&&_, _||_, not}
 use mathlib.Core.List.{List, [], _∷_}
@@ -10,6 +10,7 @@ use lib.Dec.{eqb, leb, ltb}
 use borrow.Author.Tests.{eqb-true, leb-true, ltb-true, not-true}
 use Rattle.laws.specs.Tests.{and-l, and-r, or-out}
 use Rattle.rules.specs.declared.Row.{Row}
+use Rattle.rules.specs.RowLaws.{row-eq}
 use Rattle.rules.specs.Plan.{Stay}
 use Rattle.rules.specs.Chosen.{LexLe}
 
@@ -98,7 +99,8 @@ same-rows (x ∷ xs) (y ∷ ys) t =
     let r = eqb-true (x .exit) (y .exit) (holds ts t 3) in
     let n = eqb-true (x .next) (y .next) (holds ts t 4) in
     let e = same-rows xs ys (holds ts t 5) in
-    λ i. record { place = p i; entry = q i; ticket = k i; exit = r i; next = n i } ∷ e i
+    let h : x ≡ y = row-eq p q k r n in
+    ap₂ (λ (z : Row) (l : List Row). z ∷ l) h e
 
 -- two answers are the same
 unfoldable pub sameAnswer : Bool → Bool → Bool

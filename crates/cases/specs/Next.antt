@@ -10,7 +10,7 @@ use Rattle.laws.specs.Order.{lt-or-ge}
 use Rattle.laws.specs.Tests.{not-both}
 use Rattle.rules.specs.declared.Row.{Row}
 use Rattle.rules.specs.Map.{Yard}
-use Rattle.rules.specs.Rows.{crosses}
+use Rattle.rules.specs.Rows.{barred}
 use Rattle.rules.specs.Window.{Span, Step, Yields}
 
 -- a second above every second of the day
@@ -50,23 +50,23 @@ module _ (Y : Yard) (B : List Row) where
 
   unfoldable pub leastEntry : Span → Span → ℕ → ℕ
   unfolding from upto
-  leastEntry w v e = elim (Y .link (w .place) (v .place)) [ false ↦ mark | true ↦ scan (crosses B (v .place) (w .place)) (suc (upto w v) - from w v e) (from w v e) ]
+  leastEntry w v e = elim (Y .link (w .place) (v .place)) [ false ↦ mark | true ↦ scan (barred B (w .place) (v .place)) (suc (upto w v) - from w v e) (from w v e) ]
 
   pub least-low : (w v : Span) (e u : ℕ) → Step Y B w v e u → leastEntry w v e ≤ u
   unfolding leastEntry
   least-low w v e u k =
       let a = k .after in let b = k .before in let c = k .from in let d = k .fits in
-      rw (k .linked, leastEntry) (scan-low (crosses B (v .place) (w .place)) _ _ u (omega arith) (omega arith) (k .clear))
+      rw (k .linked, leastEntry) (scan-low (barred B (w .place) (v .place)) _ _ u (omega arith) (omega arith) (k .clear))
 
   pub least-step : (w v : Span) (e : ℕ) → v .from + Y .dur (v .place) ≤ v .to → leastEntry w v e < mark → Step Y B w v e (leastEntry w v e)
   unfolding leastEntry
   least-step w v e l = go (Y .link (w .place) (v .place)) refl
     where
       go : (t : Bool) → Y .link (w .place) (v .place) ≡ t
-          → let x = elim t as (λ _. ℕ) [ false ↦ mark | true ↦ scan (crosses B (v .place) (w .place)) (suc (upto w v) - from w v e) (from w v e) ] in x < mark → Step Y B w v e x
+          → let x = elim t as (λ _. ℕ) [ false ↦ mark | true ↦ scan (barred B (w .place) (v .place)) (suc (upto w v) - from w v e) (from w v e) ] in x < mark → Step Y B w v e x
       go false q h = absurd (omega arith)
       go true q h =
-          let r = scan-at (crosses B (v .place) (w .place)) (suc (upto w v) - from w v e) (from w v e) h in
+          let r = scan-at (barred B (w .place) (v .place)) (suc (upto w v) - from w v e) (from w v e) h in
           let r0 = r .0 in
           let r1 = r .1 in
           record { linked = q; after = omega arith; before = omega arith; from = omega arith; fits = omega arith; clear = r .2 }

@@ -7,10 +7,9 @@ use mathlib.Core.Bool.{Bool, true, false, _&&_}
 use mathlib.Core.List.{List, [], _∷_, List·Memᴰ, List·Memᴰ·not-nil, List·Memᴰ·cases-cons}
 use native.Mathlib.Omega.{arith}
 use Rattle.laws.specs.Tests.{and-l, and-r}
-use Rattle.rules.specs.declared.Row.{Row}
 use Rattle.rules.specs.declared.Refusal.the-variants.{OffMap, OffDay, NoPlan}
 use Rattle.rules.specs.Map.{linked}
-use Rattle.rules.specs.Rows.{Key, firstKey, lessb, covers, load, crosses}
+use Rattle.rules.specs.Rows.{row, Key, firstKey, lessb, covers, load, crosses, barred}
 use Rattle.rules.specs.Plan.{Stay, arrival}
 use Rattle.cases.specs.Checks.{every, under, lexB, samePlan, sameRows, sameAnswer}
 use Rattle.cases.specs.Edges.{endIn}
@@ -26,9 +25,6 @@ use Rattle.cases.specs.Case.{Case, plans, permits, refuses, books, cance
 -- "Stays are written place:entry-exit."
 abbrev stay : ℕ → ℕ → ℕ → Stay
 stay p a b = record { place = p; entry = a; exit = b }
-
-abbrev row : ℕ → ℕ → ℕ → ℕ → ℕ → Row
-row p a k b n = record { place = p; entry = a; ticket = k; exit = b; next = n }
 
 abbrev key : ℕ → ℕ → ℕ → Key
 key p a k = record { place = p; entry = a; ticket = k }
@@ -88,7 +84,7 @@ allCases [] = true
 allCases (c ∷ cs) = caseB c && allCases cs
 
 table-test : allCases table ≡ true
-unfolding allCases caseB pastB planB refusedB every under lexB samePlan sameRows sameAnswer endIn scan leastEntry windowsBelow allBelow entriesB rivalB priorB beginsB trailB laterB chosenB closedB noneB freeB permittedB lessb covers load crosses linked arrival
+unfolding allCases caseB pastB planB refusedB every under lexB samePlan sameRows sameAnswer endIn scan leastEntry windowsBelow allBelow entriesB rivalB priorB beginsB trailB laterB chosenB closedB noneB freeB permittedB lessb covers load crosses barred linked arrival
 table-test = refl
 
 all-mean : (cs : List Case) → allCases cs ≡ true → (c : Case) → List·Memᴰ c cs → Means c

@@ -1,6 +1,6 @@
 -- The test and the definition are the same.
 use Prim.Native.Nat.{ℕ, zero, suc, _+_, _≤_, _<_}
-use mathlib.Core.Path.{_≡_, refl, sym, ap, subst, _∙_}
+use mathlib.Core.Path.{_≡_, refl, sym, ap, ap₂, subst, _∙_}
 use mathlib.Core.Logic.{_⊎_, inl, inr, ⊎-elim}
 use mathlib.Core.Bool.{true}
 use mathlib.Core.List.{List, [], _∷_, map, List·Memᴰ, List·Memᴰ·not-nil, List·Memᴰ·cases-cons}
@@ -13,6 +13,7 @@ use Rattle.laws.specs.Tests.{not-both}
 use Rattle.rules.specs.declared.Row.{Row}
 use Rattle.rules.specs.Limits.{day}
 use Rattle.rules.specs.Map.{Yard}
+use Rattle.rules.specs.RowLaws.{row-eq}
 use Rattle.rules.specs.Plan.{Stay, stayAt, Plan, stayRow, runRows}
 use Rattle.rules.specs.Book.{Whole}
 use Rattle.lanes.specs.Yards.{YardRules}
@@ -178,12 +179,11 @@ run-plan {Y} (x ∷ (y ∷ ys)) R f =
 run-rows : (k : ℕ) (c : List Row) → Run c → ((r : Row) → List·Memᴰ r c → r .ticket ≡ k) → runRows k (map stayOf c) ≡ c
 run-rows k [] R f = absurd R
 run-rows k (x ∷ []) R f =
-    let e = f x (List·Memᴰ·head refl) in
-    λ i. record { place = x .place; entry = x .entry; ticket = sym e i; exit = x .exit; next = sym R i } ∷ []
+    let h : stayRow k (stayOf x) (x .place) ≡ x = row-eq refl refl (sym (f x (List·Memᴰ·head refl))) refl (sym R) in
+    ap (λ (r : Row). r ∷ []) h
 run-rows k (x ∷ (y ∷ ys)) R f =
-    let e = f x (List·Memᴰ·head refl) in
-    let t = run-rows k (y ∷ ys) (R .2) (λ r m. f r (List·Memᴰ·tail m)) in
-    λ i. record { place = x .place; entry = x .entry; ticket = sym e i; exit = x .exit; next = R .1 .place i } ∷ t i
+    let h : stayRow k (stayOf x) (y .place) ≡ x = row-eq refl refl (sym (f x (List·Memᴰ·head refl))) refl (R .1 .place) in
+    ap₂ (λ (r : Row) (l : List Row). r ∷ l) h (run-rows k (y ∷ ys) (R .2) (λ r m. f r (List·Memᴰ·tail m)))
 
 -- where the test is passed, each ticket's rows are a whole plan
 pub tested-whole : {Y : Yard} → YardRules Y → {l : List Row} → Tested Y l → AllWhole Y l

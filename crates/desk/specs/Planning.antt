@@ -9,12 +9,14 @@ use lib.Seq.{length-take-le, getD-take}
 use Rattle.laws.specs.Lists.{at}
 use Rattle.rules.specs.declared.Row.{Row}
 use Rattle.rules.specs.declared.Planned.the-variants.{Done, Refused}
-use Rattle.rules.specs.declared.Refusal.the-variants.{BadMap, BadBook, OffMap, OffDay, NoPlan, ShortList}
+use Rattle.rules.specs.declared.Refusal.{Refusal}
+use Rattle.rules.specs.declared.Refusal.the-variants.{OffMap, OffDay, NoPlan, ShortList}
 use Rattle.rules.specs.Map.{Yard}
 use Rattle.rules.specs.Rows.{load, rowAt}
 use Rattle.rules.specs.Plan.{Stay, Permitted, arrival, runRows}
 use Rattle.rules.specs.Chosen.{Chosen}
-use Rattle.rules.specs.Answer.{PlanSays, PlanSound, written, records}
+use Rattle.rules.specs.Bytes.{written, records}
+use Rattle.rules.specs.Answer.{number, PlanRefused, PlanSound}
 use Rattle.lanes.specs.Yards.{YardRules}
 use Rattle.lanes.specs.Chosen.{chosen-best}
 use Rattle.flat.specs.Links.{group-place}
@@ -62,6 +64,10 @@ module _ {Y : Yard} {rows : List Row} {start dest s : ℕ} {was out : List ℕ} 
         pub plan-done : {a c : ℕ} → length plan ≤ records was → arrival plan ≡ a → length plan ≡ c → out ≡ written (runRows 0 plan) was → PlanSound Y rows start dest s was out (Done (record { arrival = a; count = c }))
         plan-done h ea ec eo = inr (on, inr (day, inr (some Y rows start dest s rules (on .1) booked C, (plan, C, inr (h, record { code = refl; arrives = sym ea; counts = sym ec; holds = eo })))))
 
+-- refused at the gate
+pub plan-refused : {was out : List ℕ} {x : Refusal} → was ≡ out → (n : ℕ) → number x ≡ n → PlanRefused n was out (Refused x)
+plan-refused e n h = record { code = h; arrives = refl; counts = refl; holds = sym e }
+
 -- the number of stays of a route
 pub route-long : {D P lab path : List ℕ} {r : ℕ} → PathFits D P lab path r → length (planOf D P lab (take r path)) ≡ r
 route-long {D} {P} {lab} {path} {r} F = plan-long D P lab (take r path) ∙ length-take-le r path (omega (arith, F .few, F .long))
@@ -72,12 +78,3 @@ pub route-arrives : {D P lab path : List ℕ} {r : ℕ} (t : ℕ) → PathFits D
 route-arrives {D} {P} {lab} {path} {r} t F h =
     let l : suc (r - 1) ≡ length (take r path) = (let z = length-take-le r path (omega (arith, F .few, F .long)) in omega arith) in
     last-arrives D P lab (take r path) (r - 1) l ∙ sym (ap (λ (x : Row). x .exit) (row-last D P lab t (take r path) (r - 1) l))
-
--- ---- with the map and the book tested first
-
-module _ {map-ok book-ok : Type 0} {Y : Yard} {rows : List Row} {start dest s : ℕ} {was out : List ℕ} where
-  pub plan-bad-map : (map-ok → ⊥) → was ≡ out → PlanSays map-ok book-ok Y rows start dest s was out (Refused BadMap)
-  plan-bad-map h e = inl (h, record { code = refl; arrives = refl; counts = refl; holds = sym e })
-
-  pub plan-bad-book : map-ok → (book-ok → ⊥) → was ≡ out → PlanSays map-ok book-ok Y rows start dest s was out (Refused BadBook)
-  plan-bad-book m h e = inr (m, inl (h, record { code = refl; arrives = refl; counts = refl; holds = sym e }))

@@ -2,13 +2,13 @@
 use rules::Map;
 use rules::Planned;
 use rules::Refusal;
+use rules::Row;
 use rules::Trip;
+use vet::Verdict;
 ghost use Prim.Native.Nat.{ℕ, _≤_, _<_};
-ghost use Rattle.rules.specs.Map.{MapRules};
 ghost use Rattle.rules.specs.Rows.{load};
-ghost use Rattle.rules.specs.Book.{WellFormed};
 ghost use Rattle.rules.specs.Answer.{PlanSound, PlanSays};
-ghost use Rattle.flat.specs.Flat.{placesIn, linksIn, rowsIn, yardIn, Packed};
+ghost use Rattle.flat.specs.Flat.{rowsIn, yardIn, papersIn, Packed};
 ghost use Rattle.search.specs.Lanes.{Lanes};
 
 // Planning where map and book are sound: 3, 4, 5, 6, or the plan.
@@ -77,7 +77,7 @@ fn plan_sound(
     if c == 0 {
         return Planned::Refused(Refusal::NoPlan);
     }
-    if out.len() / 11 < c {
+    if out.len() / Row::BYTES < c {
         return Planned::Refused(Refusal::ShortList);
     }
     planner::write_plan(dur, place, &label, &path, c, out);
@@ -106,7 +106,7 @@ pub fn plan_flat(
     out: &mut [u8],
 ) -> Planned
     requires { ⌜ Packed (now key) ⌝ }
-    ensures { λ r. ⌜ PlanSays (MapRules (placesIn (now (cap .entry)) (now (dur .entry)) n) (linksIn (now (from .entry)) (now (to .entry)) k)) (WellFormed (yardIn (now (cap .entry)) (now (dur .entry)) n (now (from .entry)) (now (to .entry)) k) (rowsIn (now (key .entry)) (now (tail .entry)) count) «next_ticket») (yardIn (now (cap .entry)) (now (dur .entry)) n (now (from .entry)) (now (to .entry)) k) (rowsIn (now (key .entry)) (now (tail .entry)) count) origin dest s (now (out .entry)) (now (out .exit)) r ⌝ }
+    ensures { λ r. ⌜ PlanSays (papersIn (now (cap .entry)) (now (dur .entry)) (now (from .entry)) (now (to .entry)) n k (now (key .entry)) (now (tail .entry)) count «next_ticket») origin dest s (now (out .entry)) (now (out .exit)) r ⌝ }
 {
     let mut head = [0u16; 256];
     let mut chain = [0u16; 1024];
@@ -114,7 +114,7 @@ pub fn plan_flat(
     let mut start = [0u32; 1280];
     let mut end = [0u32; 1280];
     let mut first = [0u16; 257];
-    let m = vet::vet(
+    let found = vet::vet(
         n,
         k,
         cap,
@@ -132,32 +132,30 @@ pub fn plan_flat(
         &mut place,
         &mut first,
     );
-    if m >= 1282 {
-        return Planned::Refused(Refusal::BadMap);
+    let v = vet::judged(found);
+    match v {
+        Verdict::Refused(r) => Planned::Refused(r),
+        Verdict::Sound(w) => plan_sound(
+            n,
+            k,
+            w,
+            cap,
+            dur,
+            from,
+            to,
+            &head,
+            &chain,
+            &place,
+            &start,
+            &end,
+            &first,
+            key,
+            tail,
+            count,
+            origin,
+            dest,
+            s,
+            out,
+        ),
     }
-    if m >= 1281 {
-        return Planned::Refused(Refusal::BadBook);
-    }
-    plan_sound(
-        n,
-        k,
-        m,
-        cap,
-        dur,
-        from,
-        to,
-        &head,
-        &chain,
-        &place,
-        &start,
-        &end,
-        &first,
-        key,
-        tail,
-        count,
-        origin,
-        dest,
-        s,
-        out,
-    )
 }

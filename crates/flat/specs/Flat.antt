@@ -8,16 +8,25 @@ use Rattle.laws.specs.Lists.{at, tabulate}
 use Rattle.rules.specs.declared.Place.{Place}
 use Rattle.rules.specs.declared.Link.{Link}
 use Rattle.rules.specs.declared.Row.{Row}
-use Rattle.rules.specs.Map.{Yard, yardOf}
+use Rattle.rules.specs.Map.{Yard, yardOf, MapRules}
+use Rattle.rules.specs.Rows.{row}
+use Rattle.rules.specs.Book.{WellFormed}
+use Rattle.rules.specs.Gate.{Papers}
 use Rattle.rules.specs.Window.{Span}
 
 -- ---- the map: capacity C and duration D of each place, from F and to T of each link
 
+abbrev pub onePlace : List ℕ → List ℕ → ℕ → Place
+onePlace C D p = record { capacity = at C p; duration = at D p }
+
 abbrev pub placesIn : List ℕ → List ℕ → ℕ → List Place
-placesIn C D n = tabulate n (λ p. record { capacity = at C p; duration = at D p })
+placesIn C D n = tabulate n (onePlace C D)
+
+abbrev pub oneLink : List ℕ → List ℕ → ℕ → Link
+oneLink F T j = record { from = at F j; to = at T j }
 
 abbrev pub linksIn : List ℕ → List ℕ → ℕ → List Link
-linksIn F T k = tabulate k (λ j. record { from = at F j; to = at T j })
+linksIn F T k = tabulate k (oneLink F T)
 
 abbrev pub yardIn : List ℕ → List ℕ → ℕ → List ℕ → List ℕ → ℕ → Yard
 yardIn C D n F T k = yardOf (placesIn C D n) (linksIn F T k)
@@ -54,10 +63,7 @@ ticketOf key = key % 16777216
 abbrev pub keyOf : ℕ → ℕ → ℕ → ℕ
 keyOf place entry ticket = place * 281474976710656 + entry * 16777216 + ticket
 
--- entries, tickets and exits have 24 bits, keys 56
-abbrev pub fieldLimit : ℕ
-fieldLimit = 16777216
-
+-- a place below 256, an entry and a ticket of three bytes
 abbrev pub keyLimit : ℕ
 keyLimit = 72057594037927936
 
@@ -73,19 +79,27 @@ abbrev pub tailOf : ℕ → ℕ → ℕ
 tailOf exit next = exit * 256 + next
 
 abbrev pub rowOf : ℕ → ℕ → Row
-rowOf key tail = record { place = placeOf key; entry = entryOf key; ticket = ticketOf key; exit = exitOf tail; next = nextOf tail }
+rowOf key tail = row (placeOf key) (entryOf key) (ticketOf key) (exitOf tail) (nextOf tail)
 
 -- the rows of keys K and tails X
 abbrev pub rowsIn : List ℕ → List ℕ → ℕ → List Row
 rowsIn K X count = tabulate count (λ i. rowOf (at K i) (at X i))
 
--- keys of a place below 256, an entry and a ticket below 2^24
 pub record Packed (K : List ℕ) : Type 0 where
   pub keys : (i : ℕ) → at K i < keyLimit
 
 -- keys strictly rising as numbers
 pub record KeysRise (K : List ℕ) (count : ℕ) : Type 0 where
   pub rise : (i j : ℕ) → i < j → j < count → at K i < at K j
+
+-- map and book as the arrays hold them
+abbrev pub papersIn : (C D F T : List ℕ) (n k : ℕ) (K X : List ℕ) (count next-ticket : ℕ) → Papers
+papersIn C D F T n k K X count next-ticket = record {
+  map-good = MapRules (placesIn C D n) (linksIn F T k);
+  book-good = WellFormed (yardIn C D n F T k) (rowsIn K X count) next-ticket;
+  yard = yardIn C D n F T k;
+  rows = rowsIn K X count;
+}
 
 -- ---- windows: place P, first second S, end E
 

@@ -12,19 +12,19 @@ use Rattle.rules.specs.declared.Place.{Place}
 use Rattle.rules.specs.Map.{MapRules, noPlace, placeAt, noLink, linkAt}
 use Rattle.rules.specs.Rows.{noRow, rowAt}
 use Rattle.lanes.specs.Yards.{yard-rules}
-use Rattle.flat.specs.Flat.{placesIn, linksIn, yardIn, Of, lastBefore, rowOf, rowsIn, placeOf, entryOf, ticketOf, keyOf, exitOf, nextOf, tailOf}
+use Rattle.flat.specs.Flat.{onePlace, oneLink, placesIn, linksIn, yardIn, Of, lastBefore, rowOf, rowsIn, placeOf, entryOf, ticketOf, keyOf, exitOf, nextOf, tailOf}
 
 pub places-long : (C D : List ℕ) (n : ℕ) → length (placesIn C D n) ≡ n
-places-long C D n = length-tabulate n (λ p. record { capacity = at C p; duration = at D p })
+places-long C D n = length-tabulate n (onePlace C D)
 
-pub place-in : (C D : List ℕ) (n p : ℕ) → p < n → placeAt (placesIn C D n) p ≡ record { capacity = at C p; duration = at D p }
-place-in C D n p h = getD-tabulate n (λ p. record { capacity = at C p; duration = at D p }) p noPlace h
+pub place-in : (C D : List ℕ) (n p : ℕ) → p < n → placeAt (placesIn C D n) p ≡ onePlace C D p
+place-in C D n p h = getD-tabulate n (onePlace C D) p noPlace h
 
 pub links-long : (F T : List ℕ) (k : ℕ) → length (linksIn F T k) ≡ k
-links-long F T k = length-tabulate k (λ j. record { from = at F j; to = at T j })
+links-long F T k = length-tabulate k (oneLink F T)
 
-pub link-in : (F T : List ℕ) (k j : ℕ) → j < k → linkAt (linksIn F T k) j ≡ record { from = at F j; to = at T j }
-link-in F T k j h = getD-tabulate k (λ j. record { from = at F j; to = at T j }) j noLink h
+pub link-in : (F T : List ℕ) (k j : ℕ) → j < k → linkAt (linksIn F T k) j ≡ oneLink F T j
+link-in F T k j h = getD-tabulate k (oneLink F T) j noLink h
 
 pub rows-long : (K X : List ℕ) (count : ℕ) → length (rowsIn K X count) ≡ count
 rows-long K X count = length-tabulate count (λ i. rowOf (at K i) (at X i))

@@ -2,7 +2,8 @@
 // its key (place, entry and ticket) and its tail (exit and next place).
 ghost use mathlib.Core.Path.{_≡_};
 ghost use Prim.Native.Nat.{_<_};
-ghost use Rattle.flat.specs.Flat.{placeOf, exitOf, nextOf, tailOf, keyLimit, fieldLimit};
+ghost use Rattle.rules.specs.Bytes.{fieldLimit};
+ghost use Rattle.flat.specs.Flat.{placeOf, exitOf, nextOf, tailOf, keyLimit};
 
 // What a place counts in a key, and a second.
 pub const PLACE: u64 = 281474976710656;

@@ -12,11 +12,13 @@ use Rattle.laws.specs.Tests.{not-both}
 use Rattle.laws.specs.Lists.{at}
 use Rattle.rules.specs.declared.Row.{Row}
 use Rattle.rules.specs.declared.Book.{Book}
-use Rattle.rules.specs.Limits.{day, ticketLimit}
+use Rattle.rules.specs.Limits.{day, rowLimit, ticketLimit}
 use Rattle.rules.specs.Map.{Yard}
 use Rattle.rules.specs.Rows.{noRow, rowAt}
+use Rattle.rules.specs.RowLaws.{row-eq}
+use Rattle.rules.specs.Bytes.{fieldLimit}
 use Rattle.rules.specs.Book.{Ranges, WellFormed, rowsOf, GoodBook}
-use Rattle.flat.specs.Flat.{keyOf, tailOf, rowOf, rowsIn, Packed}
+use Rattle.flat.specs.Flat.{keyOf, keyLimit, tailOf, rowOf, rowsIn, Packed}
 use Rattle.flat.specs.Laws.{place-of-key, entry-of-key, ticket-of-key, exit-of-tail, next-of-tail}
 use Rattle.flatten.specs.Lists.{table-take, set-all}
 
@@ -30,14 +32,14 @@ pub record InRange (r : Row) : Type 0 where
 pub record RowsFlat (b : Book) (K X : List ℕ) : Type 0 where
   pub packed : Packed K
   pub rows : rowsIn K X (b .count) ≡ rowsOf b
-  pub fits : b .count ≤ 1024
+  pub fits : b .count ≤ rowLimit
   pub len-key : length K ≡ 1024
   pub len-tail : length X ≡ 1024
 
 -- the whole book, and what the answer r tells: with the answer true it is well formed exactly when the rows in the arrays are
 pub record BookFlat (b : Book) (K X : List ℕ) (r : Bool) : Type 0 where
   pub packed : Packed K
-  pub fits : r ≡ true → b .count ≤ 1024
+  pub fits : r ≡ true → b .count ≤ rowLimit
   pub rows : r ≡ true → rowsIn K X (b .count) ≡ rowsOf b
   pub good : r ≡ true → (Y : Yard) → WellFormed Y (rowsIn K X (b .count)) (b .«next_ticket») → GoodBook Y b
   pub formed : (Y : Yard) → GoodBook Y b → (r ≡ true) × WellFormed Y (rowsIn K X (b .count)) (b .«next_ticket»)
@@ -49,19 +51,10 @@ pub record BookFlat (b : Book) (K X : List ℕ) (r : Bool) : Type 0 where
 -- a row's key and tail tell the row
 pub row-told : (r : Row) → InRange r → r .next < 256 → rowOf (keyOf (r .place) (r .entry) (r .ticket)) (tailOf (r .exit) (r .next)) ≡ r
 row-told r R hn =
-    let he : r .entry < 16777216 = omega (arith, R .entry) in
-    let ht : r .ticket < 16777216 = omega (arith, R .ticket) in
-    λ x. record {
-      place = place-of-key (r .place) (r .entry) (r .ticket) he ht x;
-      entry = entry-of-key (r .place) (r .entry) (r .ticket) he ht x;
-      ticket = ticket-of-key (r .place) (r .entry) (r .ticket) he ht x;
-      exit = exit-of-tail (r .exit) (r .next) hn x;
-      next = next-of-tail (r .exit) (r .next) hn x;
-    }
-
--- a row whose fields are zero
-pub zero-row : (r : Row) → r .place ≡ 0 → r .entry ≡ 0 → r .ticket ≡ 0 → r .exit ≡ 0 → r .next ≡ 0 → r ≡ noRow
-zero-row r p e t x n = λ i. record { place = p i; entry = e i; ticket = t i; exit = x i; next = n i }
+    let he : r .entry < fieldLimit = omega (arith, R .entry) in
+    let ht : r .ticket < fieldLimit = omega (arith, R .ticket) in
+    row-eq (place-of-key (r .place) (r .entry) (r .ticket) he ht) (entry-of-key (r .place) (r .entry) (r .ticket) he ht) (ticket-of-key (r .place) (r .entry) (r .ticket) he ht)
+    (exit-of-tail (r .exit) (r .next) hn) (next-of-tail (r .exit) (r .next) hn)
 
 -- a row of a well-formed book is in range
 pub good-range : (Y : Yard) (b : Book) → length (b .rows) ≡ 1024 → GoodBook Y b → (i : ℕ) → i < b .count → InRange (rowAt (b .rows) i)
@@ -98,14 +91,14 @@ module _ (b : Book) where
         rows = below-more (λ j. rowOf (at (set K i key) j) (at (set X i tail) j) ≡ rowAt (b .rows) j) i
             (λ j g. rw (getD-set-other K i j key 0 (λ q. omega arith), getD-set-other X i j tail 0 (λ q. omega arith)) (P .rows j g))
             (rw (getD-set-same K i key 0 (omega (arith, P .len-key)), getD-set-same X i tail 0 (omega (arith, P .len-tail)), e, f) (row-told (rowAt (b .rows) i) R n));
-        packed = record { keys = set-all (λ x. x < 72057594037927936) K i key (P .packed .keys) (omega (arith, R .entry, R .ticket)) };
+        packed = record { keys = set-all (λ x. x < keyLimit) K i key (P .packed .keys) (omega (arith, R .entry, R .ticket)) };
         len-key = length-set K i _ ∙ P .len-key;
         len-tail = length-set X i _ ∙ P .len-tail;
       }
 
   module _ (l : length (b .rows) ≡ 1024) {K X : List ℕ} where
     -- all rows are written
-    pub rows-all : RowsTo b K X (b .count) → b .count ≤ 1024 → RowsFlat b K X
+    pub rows-all : RowsTo b K X (b .count) → b .count ≤ rowLimit → RowsFlat b K X
     rows-all P h = record {
       packed = P .packed;
       rows = table-take (b .count) (λ i. rowOf (at K i) (at X i)) (b .rows) noRow (omega arith) (P .rows);
@@ -130,7 +123,7 @@ module _ (b : Book) where
     rows-bad P i h f = refused P (λ Y G. f (good-range Y b l G i h))
 
     -- the count is out of range
-    pub rows-many : {n : ℕ} → RowsTo b K X n → 1024 < b .count → BookFlat b K X false
+    pub rows-many : {n : ℕ} → RowsTo b K X n → rowLimit < b .count → BookFlat b K X false
     rows-many P h = refused P (λ Y G. omega (arith, G .fits))
 
 -- ---- the loop over the slots past the count

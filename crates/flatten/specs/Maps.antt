@@ -9,8 +9,9 @@ use Rattle.laws.specs.Lists.{at}
 use Rattle.rules.specs.declared.Place.{Place}
 use Rattle.rules.specs.declared.Link.{Link}
 use Rattle.rules.specs.declared.Map.{Map}
+use Rattle.rules.specs.Limits.{placeLimit, linkLimit}
 use Rattle.rules.specs.Map.{yardOf, MapRules, noPlace, placeAt, noLink, linkAt, placesOf, linksOf, mapYard, GoodMap}
-use Rattle.flat.specs.Flat.{placesIn, linksIn, yardIn}
+use Rattle.flat.specs.Flat.{onePlace, placesIn, oneLink, linksIn, yardIn}
 use Rattle.flat.specs.Laws.{places-long, links-long}
 use Rattle.flatten.specs.Lists.{getD-within, table-take, set-next}
 
@@ -70,14 +71,14 @@ module _ (m : Map) where
 -- ---- the arrays stand for the map
 
 module _ {m : Map} {C D F T : List ℕ} (P : PlacesFlat m C D) (L : LinksFlat m F T) (lp : length (m .places) ≡ 256) (ll : length (m .links) ≡ 1024) where
-  pub places-same : m .«place_count» ≤ 256 → placesIn C D (m .«place_count») ≡ placesOf m
+  pub places-same : m .«place_count» ≤ placeLimit → placesIn C D (m .«place_count») ≡ placesOf m
   places-same h =
-      table-take (m .«place_count») (λ p. record { capacity = at C p; duration = at D p }) (m .places) noPlace (omega arith)
+      table-take (m .«place_count») (onePlace C D) (m .places) noPlace (omega arith)
       (λ p k. let g : p < 256 = omega arith in λ x. record { capacity = P .caps p g x; duration = P .durs p g x })
 
-  pub links-same : m .«link_count» ≤ 1024 → linksIn F T (m .«link_count») ≡ linksOf m
+  pub links-same : m .«link_count» ≤ linkLimit → linksIn F T (m .«link_count») ≡ linksOf m
   links-same h =
-      table-take (m .«link_count») (λ j. record { from = at F j; to = at T j }) (m .links) noLink (omega arith)
+      table-take (m .«link_count») (oneLink F T) (m .links) noLink (omega arith)
       (λ j k. let g : j < 1024 = omega arith in λ x. record { from = L .froms j g x; to = L .tos j g x })
 
   -- the arrays keep the rules exactly when the map is good
@@ -86,8 +87,8 @@ module _ {m : Map} {C D F T : List ℕ} (P : PlacesFlat m C D) (L : LinksFlat m 
 
   pub flat-good : MapRules (placesIn C D (m .«place_count»)) (linksIn F T (m .«link_count»)) → GoodMap m
   flat-good M =
-      let a : m .«place_count» ≤ 256 = omega (arith, M .few, places-long C D (m .«place_count»)) in
-      let b : m .«link_count» ≤ 1024 = omega (arith, M .few-links, links-long F T (m .«link_count»)) in
+      let a : m .«place_count» ≤ placeLimit = omega (arith, M .few, places-long C D (m .«place_count»)) in
+      let b : m .«link_count» ≤ linkLimit = omega (arith, M .few-links, links-long F T (m .«link_count»)) in
       record { places-fit = a; links-fit = b; rules = subst₂ MapRules (places-same a) (links-same b) M }
 
   pub yard-same : GoodMap m → yardIn C D (m .«place_count») F T (m .«link_count») ≡ mapYard m

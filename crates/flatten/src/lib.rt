@@ -3,10 +3,10 @@ use rules::Book;
 use rules::Map;
 use rules::Row;
 ghost use mathlib.Core.Path.{_≡_};
-ghost use mathlib.Core.Bool.{true, false};
 ghost use Prim.Native.Nat.{ℕ, _<_};
 ghost use lib.ListN.{length};
 ghost use Rattle.laws.specs.Lists.{at};
+ghost use Rattle.laws.specs.Tests.{Decides};
 ghost use Rattle.rules.specs.Rows.{noRow};
 ghost use Rattle.flat.specs.Flat.{keyOf};
 ghost use Rattle.flatten.specs.Maps.{PlacesFlat, LinksFlat};
@@ -20,7 +20,7 @@ pub fn flat_places(m: Map, cap: &mut [u8; 256], dur: &mut [u32; 256])
     ensures { λ _. ⌜ PlacesFlat m (now (cap .exit)) (now (dur .exit)) ⌝ }
 {
     let mut p = 0;
-    while p < 256 {
+    while p < Map::PLACES {
         let place = m.places[p];
         cap[p] = place.capacity;
         dur[p] = place.duration as u32;
@@ -35,7 +35,7 @@ pub fn flat_links(m: Map, from: &mut [u8; 1024], to: &mut [u8; 1024])
     ensures { λ _. ⌜ LinksFlat m (now (from .exit)) (now (to .exit)) ⌝ }
 {
     let mut j = 0;
-    while j < 1024 {
+    while j < Map::LINKS {
         let link = m.links[j];
         from[j] = link.from;
         to[j] = link.to;
@@ -45,15 +45,15 @@ pub fn flat_links(m: Map, from: &mut [u8; 1024], to: &mut [u8; 1024])
 
 // an entry and an exit of the day, and a ticket that can be issued
 fn row_in_range(r: Row) -> bool
-    ensures { λ t. ⌜ (t ≡ true → InRange r) × (InRange r → t ≡ true) ⌝ }
+    ensures { λ t. ⌜ Decides t (InRange r) ⌝ }
 {
-    if r.entry > 86400 {
+    if r.entry > Map::DAY {
         return false;
     }
-    if r.exit > 86400 {
+    if r.exit > Map::DAY {
         return false;
     }
-    r.ticket < 1000000
+    r.ticket < Book::TICKETS
 }
 
 // a row's key as one number, and that its place is a byte
@@ -65,7 +65,7 @@ fn row_key(r: Row) -> u64
 
 // all fields zero
 fn is_zero(r: Row) -> bool
-    ensures { λ t. ⌜ (t ≡ true → r ≡ noRow) × (r ≡ noRow → t ≡ true) ⌝ }
+    ensures { λ t. ⌜ Decides t (r ≡ noRow) ⌝ }
 {
     if r.place != 0 {
         return false;
@@ -90,23 +90,23 @@ pub fn read_book(b: Book, key: &mut [u64; 1024], tail: &mut [u32; 1024]) -> usiz
     ensures { λ r. ⌜ BookRead b (now (key .exit)) (now (tail .exit)) r ⌝ }
 {
     let n = b.count;
-    if n > 1024 {
-        return 1025;
+    if n > Book::ROWS {
+        return Book::UNREAD;
     }
     let mut i = 0;
     while i < n {
         let r = b.rows[i];
         if !row_in_range(r) {
-            return 1025;
+            return Book::UNREAD;
         }
         key[i] = row_key(r);
         tail[i] = flat::tail_of(r.exit, r.next);
         i += 1;
     }
-    while i < 1024 {
+    while i < Book::ROWS {
         let r = b.rows[i];
         if !is_zero(r) {
-            return 1025;
+            return Book::UNREAD;
         }
         i += 1;
     }

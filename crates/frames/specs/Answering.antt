@@ -6,7 +6,7 @@ use mathlib.Core.List.{List, [], _∷_}
 use native.Mathlib.Omega.{arith}
 use Rattle.laws.specs.Tests.{not-both}
 use Rattle.rules.specs.declared.State.{State}
-use Rattle.rules.specs.Portal.{byteAt}
+use Rattle.rules.specs.Bytes.{byteAt}
 use Rattle.rules.specs.Frames.{lineOf, frameLength, Said, PlaceFrame, LinkFrame, PlanFrame, BookFrame, CancelFrame, PageFrame}
 use Rattle.frames.specs.declared.Line.{Line}
 use Rattle.frames.specs.declared.Told.{Told}

@@ -14,7 +14,8 @@ use borrow.Rule.Slice.PartMut.{putMid}
 use borrow.Author.Tests.{eq-eqb, ne-eqb}
 use Rattle.laws.specs.Order.{lt-or-ge}
 use Rattle.rules.specs.declared.State.{State}
-use Rattle.rules.specs.Answer.{Unless}
+use Rattle.rules.specs.Bytes.{answerRoom}
+use Rattle.rules.specs.Gate.{Unless}
 use Rattle.rules.specs.Frames.{LineSays, LinesSay, wholeLines, begunLine, lastLine, allLines, begins}
 use Rattle.rules.specs.Frames.LinesSay.{none, more}
 use Rattle.frames.specs.declared.Line.{Line}
@@ -179,7 +180,7 @@ pub record Stepped (d : Desk) (buf : List ℕ) (from at : ℕ) (was out : List �
   pub feeds : Feeds d (slice from (r .upto) buf) (r .desk) said
   pub put : Put said at was out
   pub count : r .len ≡ at + length said
-  pub short : length said ≤ 30000
+  pub short : length said ≤ answerRoom
   pub after : from ≤ r .upto
   pub within : r .upto ≤ length buf
   pub moves : from < length buf → from < r .upto
@@ -204,7 +205,7 @@ step-going d buf from at was {c} C e =
     }
 
 -- the answer put over the part of the list that begins at an index
-part-put : (was p said : List ℕ) (at n : ℕ) → at + 30000 ≤ length was → n ≤ 30000 → length p ≡ length was - at → said ≡ take n p
+part-put : (was p said : List ℕ) (at n : ℕ) → at + answerRoom ≤ length was → n ≤ answerRoom → length p ≡ length was - at → said ≡ take n p
     → drop n p ≡ drop n (take (length was - at) (drop at was)) → length said ≡ n
     → putMid at (length was - at) was p ≡ take at was ++ (said ++ drop (at + length said) was)
 part-put was p said at n h k l e r m =
@@ -218,7 +219,7 @@ part-put was p said at n h k l e r m =
     ∙ ap (λ (x : List ℕ). take at was ++ x) (append-nil p ∙ split ∙ ap (λ (x : List ℕ). said ++ x) rest)
 
 pub step-answered : (d : Desk) (buf : List ℕ) (from at : ℕ) (was p : List ℕ) {c : Cut} {t : Told} {l : Line} → CutIs (d .line) buf from c → c .ended ≡ true
-    → at + 30000 ≤ length was → Spoken (Tells (d .state) (c .line)) (take (length was - at) (drop at was)) p t → LineIs [] l
+    → at + answerRoom ≤ length was → Spoken (Tells (d .state) (c .line)) (take (length was - at) (drop at was)) p t → LineIs [] l
     → length (putMid at (length was - at) was p) ≡ length was
     → Stepped d buf from at was (putMid at (length was - at) was p) (record { desk = record { state = t .state; line = l }; upto = c .upto; len = at + t .len })
 step-answered d buf from at was p {c} {t} {l} C e h S L n =
@@ -257,9 +258,9 @@ pub record Feeding (d : Desk) (buf : List ℕ) (from : ℕ) (was : List ℕ) (e 
   pub within : from ≤ length buf → i ≤ length buf
   -- before the first step nothing is said, and a step needs bytes and room
   pub still : i ≡ from → (e ≡ d) × (at ≡ 0)
-  pub went : from < i → (30000 ≤ length was) × (from < length buf)
+  pub went : from < i → (answerRoom ≤ length was) × (from < length buf)
   -- a step takes a byte or more
-  pub few : at ≤ 30000 * (i - from)
+  pub few : at ≤ answerRoom * (i - from)
 
 pub feeding-start : (d : Desk) (buf : List ℕ) (from : ℕ) (was : List ℕ) → Feeding d buf from was d from 0 was
 feeding-start d buf from was = record {
@@ -275,7 +276,7 @@ feeding-start d buf from was = record {
   few = omega arith;
 }
 
-pub feeding-next : {d e : Desk} {buf was mid out : List ℕ} {from i at : ℕ} {r : Intake} → Feeding d buf from was e i at mid → i < length buf → at + 30000 ≤ length was
+pub feeding-next : {d e : Desk} {buf was mid out : List ℕ} {from i at : ℕ} {r : Intake} → Feeding d buf from was e i at mid → i < length buf → at + answerRoom ≤ length was
     → Stepped e buf i at mid out r → Feeding d buf from was (r .desk) (r .upto) (r .len) out
 feeding-next {d} {e} {buf} {was} {mid} {out} {from} {i} {at} {r} F h room S =
     let j = slice-join from i (r .upto) buf (F .after) (S .after) (S .within) in
@@ -305,14 +306,14 @@ pub record FedIs (d : Desk) (buf : List ℕ) (from : ℕ) (was out : List ℕ) (
   pub after : from ≤ r .upto
   pub within : from ≤ length buf → r .upto ≤ length buf
   -- it stops at the end of the bytes, or where there is no room for one more answer
-  pub stops : r .upto < length buf → length was < r .len + 30000
+  pub stops : r .upto < length buf → length was < r .len + answerRoom
   -- it moves where there are bytes and room for an answer, and else takes nothing
-  pub moves : 30000 ≤ length was → from < length buf → from < r .upto
-  pub stays : (30000 ≤ length was → from < length buf → ⊥) → (r .desk ≡ d) × (r .upto ≡ from) × (r .len ≡ 0)
+  pub moves : answerRoom ≤ length was → from < length buf → from < r .upto
+  pub stays : (answerRoom ≤ length was → from < length buf → ⊥) → (r .desk ≡ d) × (r .upto ≡ from) × (r .len ≡ 0)
   -- an answer takes a byte or more of the input
-  pub few : r .len ≤ 30000 * (r .upto - from)
+  pub few : r .len ≤ answerRoom * (r .upto - from)
 
-pub fed-is : {d e : Desk} {buf was out : List ℕ} {from i at : ℕ} → Feeding d buf from was e i at out → (i < length buf → length was < at + 30000)
+pub fed-is : {d e : Desk} {buf was out : List ℕ} {from i at : ℕ} → Feeding d buf from was e i at out → (i < length buf → length was < at + answerRoom)
     → FedIs d buf from was out (record { desk = e; upto = i; len = at })
 fed-is {d} {e} {buf} {was} {out} {from} {i} {at} F stop = record {
   feeds = rw (F .count, put-front (F .put)) (F .feeds);
@@ -339,7 +340,7 @@ abbrev pub Ends : Desk → State → List ℕ → Type 0
 Ends d s said = (line : List ℕ) → LineIs line (d .line) → LinesSay (d .state) (lastLine line) s said
 
 abbrev pub EndedIs : Desk → List ℕ → List ℕ → Told → Type 0
-EndedIs d was out r = Unless (30000 ≤ length was) (Silent (d .state) was out r) (Spoken (Ends d) was out r)
+EndedIs d was out r = Unless (answerRoom ≤ length was) (Silent (d .state) was out r) (Spoken (Ends d) was out r)
 
 pub nothing-begun : (d : Desk) (was : List ℕ) → d .line .len ≡ 0 → Spoken (Ends d) was was (record { state = d .state; len = 0 })
 nothing-begun d was e = record {
@@ -357,12 +358,12 @@ some-line [] h x = absurd (omega arith)
 some-line (c ∷ line) h x = x
 
 module _ (d : Desk) {was out : List ℕ} {r : Intake} (F : FedIs d (10 ∷ []) 0 was out r) where
-  pub fed-silent : length was < 30000 → Silent (d .state) was out (record { state = r .desk .state; len = r .len })
+  pub fed-silent : length was < answerRoom → Silent (d .state) was out (record { state = r .desk .state; len = r .len })
   fed-silent h =
       let x = F .stays (λ k _. omega arith) in
       record { stays = ap (λ (e : Desk). e .state) (x .0); none = x .2; same = rw (x .2) at (F .kept) }
 
-  pub fed-ended : 30000 ≤ length was → length (d .line .digits) ≡ 18 → (d .line .len ≡ 0 → ⊥) → Spoken (Ends d) was out (record { state = r .desk .state; len = r .len })
+  pub fed-ended : answerRoom ≤ length was → length (d .line .digits) ≡ 18 → (d .line .len ≡ 0 → ⊥) → Spoken (Ends d) was out (record { state = r .desk .state; len = r .len })
   fed-ended h n f =
       let m = F .moves h (omega arith) in
       let w = F .within (omega arith) in

@@ -7,7 +7,6 @@ use mathlib.Core.List.{List, [], _∷_, _++_, append-nil}
 use native.Mathlib.Omega.{arith}
 use native.Mathlib.Nat.{min-le-left}
 use lib.ListN.{length, take, length-take, length-append}
-use Rattle.keeping.specs.Calls.{unless}
 use Rattle.rules.specs.declared.Row.{Row}
 use Rattle.rules.specs.declared.Map.{Map}
 use Rattle.rules.specs.declared.Book.{Book}
@@ -16,12 +15,16 @@ use Rattle.rules.specs.declared.Planned.{Planned}
 use Rattle.rules.specs.declared.Booking.{Booking}
 use Rattle.rules.specs.declared.Cancelling.{Cancelling}
 use Rattle.rules.specs.declared.Paged.{Paged}
+use Rattle.rules.specs.Limits.{placeLimit, linkLimit, planLimit, pageLimit}
 use Rattle.rules.specs.Rows.{Key, bit}
 use Rattle.rules.specs.Book.{rowsOf}
 use Rattle.rules.specs.Page.{after}
-use Rattle.rules.specs.Answer.{PlanIs, BookIs, CancelIs, PageIs, Planning, PagingIs, plannedNumber, plannedArrival, plannedCount, bookedNumber, bookedTicket, bookedArrival, bookedCount, cancelledNumber, cancelledCount, pagedNumber, pagedCount, pagedMore}
-use Rattle.rules.specs.Portal.{byteAt, num2, num3}
-use Rattle.rules.specs.Frames.{hexOf, lineOf, rowLines, after00, bytes2, bytes3, answerList, bookLines, cancelLines, closedWith, withPlace, withLink, Said, PlaceFrame, LinkFrame, PlanFrame, BookFrame, CancelFrame, PageFrame}
+use Rattle.rules.specs.Bytes.{byteAt, num2, num3, bytes2, bytes3, placeIn, linkIn, rowSize, listSize, answerRoom}
+use Rattle.rules.specs.GateLaws.{unless, checked}
+use Rattle.rules.specs.Answer.{PlanIs, BookIs, CancelIs, PageIs, Planning, PagingIs, plannedNumber, plannedArrival, plannedCount, pagedNumber, pagedCount, pagedMore}
+use Rattle.rules.specs.Answer.{bookedNumber, bookedTicket, bookedArrival, bookedCount, cancelledNumber, cancelledCount}
+use Rattle.rules.specs.Frames.{hexOf, lineOf, rowLines, after00, answerList, bookLines, cancelLines, closedWith, withPlace, withLink, Said}
+use Rattle.rules.specs.Frames.{PlaceFrame, LinkFrame, PlanFrame, BookFrame, CancelFrame, PageFrame}
 use Rattle.frames.specs.declared.Head.{Head}
 use Rattle.frames.specs.declared.Told.{Told}
 use Rattle.frames.specs.Put.{line-long, rows-long}
@@ -30,20 +33,21 @@ use Rattle.frames.specs.Told.{Answers, Spoken, spoken, spoken-so}
 
 -- ---- how many rows
 
-pub plan-few : {m : Map} {b : Book} {start dest s : ℕ} {was out : List ℕ} {r : Planned} → PlanIs m b start dest s was out r → length was ≡ 14080 → plannedCount r ≤ 1280
+pub plan-few : {m : Map} {b : Book} {start dest s : ℕ} {was out : List ℕ} {r : Planned} → PlanIs m b start dest s was out r → length was ≡ listSize → plannedCount r ≤ planLimit
 plan-few {m} {b} {start} {dest} {s} {was} {out} {r} h e =
-    unless none (λ _. unless none (λ _. unless none (λ _. unless none (λ _. unless none (λ _ c. unless none (λ f x. omega (arith, x .counts)) (c .2)))))) h
+    checked (λ n _. none) (λ M G. unless none (λ _. unless none (λ _. unless none (λ _ c. unless none (λ f x. omega (arith, x .counts)) (c .2))))) h
   where
-    none : {n : ℕ} → Planning n 0 0 was out r → plannedCount r ≤ 1280
+    none : {n : ℕ} → Planning n 0 0 was out r → plannedCount r ≤ planLimit
     none x = omega (arith, x .counts)
 
-pub page-few : {m : Map} {b : Book} {size : ℕ} {k : Key} {was out : List ℕ} {r : Paged} → PageIs m b size k was out r → pagedCount r ≤ 64
-page-few {m} {b} {size} {k} {was} {out} {r} h = unless none (λ _. unless none (λ _. unless none (λ z. unless none (λ _. unless none (λ f x. done (after k (rowsOf b)) z x))))) h
+pub page-few : {m : Map} {b : Book} {size : ℕ} {k : Key} {was out : List ℕ} {r : Paged} → PageIs m b size k was out r → pagedCount r ≤ pageLimit
+page-few {m} {b} {size} {k} {was} {out} {r} h =
+    checked (λ n _. none) (λ M G. unless none (λ z. unless none (λ _. unless none (λ f x. done (after k (rowsOf b)) z x)))) h
   where
-    none : {n : ℕ} {more : Bool} {c : Key} {list : List ℕ} → PagingIs n 0 more c list out r → pagedCount r ≤ 64
+    none : {n : ℕ} {more : Bool} {c : Key} {list : List ℕ} → PagingIs n 0 more c list out r → pagedCount r ≤ pageLimit
     none x = omega (arith, x .counts)
 
-    done : {n : ℕ} {more : Bool} {c : Key} {list : List ℕ} (rows : List Row) → (1 ≤ size) × (size ≤ 64) → PagingIs n (length (take size rows)) more c list out r → pagedCount r ≤ 64
+    done : {n : ℕ} {more : Bool} {c : Key} {list : List ℕ} (rows : List Row) → (1 ≤ size) × (size ≤ pageLimit) → PagingIs n (length (take size rows)) more c list out r → pagedCount r ≤ pageLimit
     done {n} {more} {c} {list} rows z x =
         let a = length-take size rows in
         let d = min-le-left size (length rows) in
@@ -57,33 +61,33 @@ unfolding hexOf
 refused-line s {was} {out} {len} A = spoken (Said s (lineOf (12 ∷ []))) s len A (omega arith) (record { next = refl; prints = refl })
 
 module _ (s : State) (bytes : List ℕ) {was out : List ℕ} {r : Told} (R : Spoken (Said s (lineOf (12 ∷ []))) was out r) where
-  pub place-refused : ((s .closed ≡ false) × (s .map .«place_count» < 256) → ⊥) → Spoken (PlaceFrame s bytes) was out r
+  pub place-refused : ((s .closed ≡ false) × (s .map .«place_count» < placeLimit) → ⊥) → Spoken (PlaceFrame s bytes) was out r
   place-refused f = spoken-so (λ s′ said x. inl (f, x)) R
 
-  pub link-refused : ((s .closed ≡ false) × (s .map .«link_count» < 1024) → ⊥) → Spoken (LinkFrame s bytes) was out r
+  pub link-refused : ((s .closed ≡ false) × (s .map .«link_count» < linkLimit) → ⊥) → Spoken (LinkFrame s bytes) was out r
   link-refused f = spoken-so (λ s′ said x. inl (f, x)) R
 
 module _ (s : State) (bytes : List ℕ) {was out : List ℕ} {len : ℕ} (A : Answers (lineOf (0 ∷ [])) was out len) (going : s .closed ≡ false) where
-  pub place-kept : {d : ℕ} → d ≡ num2 bytes 2 → s .map .«place_count» < 256
-      → Spoken (PlaceFrame s bytes) was out (record { state = record { map = withPlace (s .map) (byteAt bytes 1) d; book = s .book; closed = false }; len = len })
+  pub place-kept : {d : ℕ} → d ≡ num2 bytes 2 → s .map .«place_count» < placeLimit
+      → Spoken (PlaceFrame s bytes) was out (record { state = record { map = withPlace (s .map) (record { capacity = byteAt bytes 1; duration = d }); book = s .book; closed = false }; len = len })
   unfolding hexOf
   place-kept {d} e h =
       rw e
-      (spoken (PlaceFrame s bytes) (record { map = withPlace (s .map) (byteAt bytes 1) (num2 bytes 2); book = s .book; closed = false }) len A (omega arith)
+      (spoken (PlaceFrame s bytes) (record { map = withPlace (s .map) (placeIn bytes 1); book = s .book; closed = false }) len A (omega arith)
       (inr ((going, h), record { next = refl; prints = refl })))
 
-  pub link-kept : s .map .«link_count» < 1024
-      → Spoken (LinkFrame s bytes) was out (record { state = record { map = withLink (s .map) (byteAt bytes 1) (byteAt bytes 2); book = s .book; closed = false }; len = len })
+  pub link-kept : s .map .«link_count» < linkLimit
+      → Spoken (LinkFrame s bytes) was out (record { state = record { map = withLink (s .map) (linkIn bytes 1); book = s .book; closed = false }; len = len })
   unfolding hexOf
   link-kept h =
-      spoken (LinkFrame s bytes) (record { map = withLink (s .map) (byteAt bytes 1) (byteAt bytes 2); book = s .book; closed = false }) len A (omega arith)
+      spoken (LinkFrame s bytes) (record { map = withLink (s .map) (linkIn bytes 1); book = s .book; closed = false }) len A (omega arith)
       (inr ((going, h), record { next = refl; prints = refl }))
 
 -- ---- the four calls
 
--- an answer's lines are at most 1 + 1,280
-answer-short : (h : Head) (list : List ℕ) (rows : ℕ) → h .count ≤ 9 → length (h .bytes) ≡ 9 → rows ≤ 1280 → 11 * rows ≤ length list
-    → length (lineOf (take (h .count) (h .bytes)) ++ rowLines rows list) ≤ 30000
+-- an answer is its first line and at most the row lines of a whole plan
+answer-short : (h : Head) (list : List ℕ) (rows : ℕ) → h .count ≤ 9 → length (h .bytes) ≡ 9 → rows ≤ planLimit → rowSize * rows ≤ length list
+    → length (lineOf (take (h .count) (h .bytes)) ++ rowLines rows list) ≤ answerRoom
 answer-short h list rows a b c d =
     let e = length-append (lineOf (take (h .count) (h .bytes))) (rowLines rows list) in
     let f = line-long (h .bytes) 0 (h .count) (omega arith) in
@@ -92,7 +96,7 @@ answer-short h list rows a b c d =
 
 module _ (s : State) (bytes : List ℕ) (h : Head) {was out : List ℕ} {len : ℕ} where
   pub plan-frame : (p : Planned) (list : List ℕ) (rows : ℕ) {start dest second : ℕ} → start ≡ byteAt bytes 1 → dest ≡ byteAt bytes 2 → second ≡ num3 bytes 3
-      → PlanIs (s .map) (s .book) start dest second answerList list p → rows ≤ 1280 → length list ≡ 14080 → rows ≡ plannedCount p
+      → PlanIs (s .map) (s .book) start dest second answerList list p → rows ≤ planLimit → length list ≡ listSize → rows ≡ plannedCount p
       → HeadIs (after00 (plannedNumber p) (bytes3 (plannedArrival p) ++ bytes2 (plannedCount p))) h
       → Answers (lineOf (take (h .count) (h .bytes)) ++ rowLines rows list) was out len
       → Spoken (PlanFrame s bytes) was out (record { state = closedWith s (s .book); len = len })
@@ -117,8 +121,10 @@ module _ (s : State) (bytes : List ℕ) (h : Head) {was out : List ℕ} {len : �
       spoken (CancelFrame s bytes) (closedWith s (r .book)) len A (answer-short h list 0 (H .fits) (H .long) (omega arith) (omega arith))
       (record { answer = r; is = rw a at is; said-so = record { next = refl; prints = rw (H .is) (append-nil (cancelLines r)) } })
 
-  pub page-frame : (p : Paged) (list : List ℕ) (rows : ℕ) {size place entry ticket : ℕ} → size ≡ byteAt bytes 1 → place ≡ byteAt bytes 2 → entry ≡ num3 bytes 3 → ticket ≡ num3 bytes 6
-      → PageIs (s .map) (s .book) size (record { place = place; entry = entry; ticket = ticket }) answerList list p → rows ≤ 1280 → length list ≡ 14080 → rows ≡ pagedCount p
+  pub page-frame : (p : Paged) (list : List ℕ) (rows : ℕ) {size place entry ticket : ℕ}
+      → size ≡ byteAt bytes 1 → place ≡ byteAt bytes 2 → entry ≡ num3 bytes 3 → ticket ≡ num3 bytes 6
+      → PageIs (s .map) (s .book) size (record { place = place; entry = entry; ticket = ticket }) answerList list p
+      → rows ≤ planLimit → length list ≡ listSize → rows ≡ pagedCount p
       → HeadIs (after00 (pagedNumber p) (pagedCount p ∷ (bit (pagedMore p) ∷ []))) h
       → Answers (lineOf (take (h .count) (h .bytes)) ++ rowLines rows list) was out len
       → Spoken (PageFrame s bytes) was out (record { state = closedWith s (s .book); len = len })

@@ -10,7 +10,7 @@ use native.Mathlib.Numerals.{add-one}
 use lib.ListN.{length, getD, take, set, length-append, length-set}
 use lib.Seq.{take-suc, take-suc-set, getD-set-same, getD-set-other, getD-take, length-take-le}
 use Rattle.laws.specs.Order.{eq-or-ne}
-use Rattle.rules.specs.Portal.{byteAt}
+use Rattle.rules.specs.Bytes.{byteAt}
 use Rattle.rules.specs.Frames.{digit, hexOf, frameLength}
 use Rattle.unique.specs.Hex.{Value, AreBytes, hex-length, hex-append, hex-at-high, hex-at-low}
 use Rattle.unique.specs.Line.{no-kind}

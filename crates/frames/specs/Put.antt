@@ -7,6 +7,7 @@ use native.Mathlib.Omega.{arith}
 use native.Mathlib.Numerals.{add-one}
 use lib.ListN.{length, getD, take, drop, set, length-append, length-drop, take-append-drop}
 use lib.Seq.{take-suc, getD-drop, take-at, drop-at, drop-drop, length-take-le, sets-eq, sets, length-sets}
+use Rattle.rules.specs.Bytes.{rowSize, rowLine}
 use Rattle.rules.specs.Frames.{digit, hexOf, lineOf, rowLines}
 use Rattle.unique.specs.Hex.{hex-length, hex-append}
 
@@ -92,20 +93,20 @@ put-line {list} {from} {n} {at} {was} {mid} h g D =
 
 -- ---- row lines: the first j of them
 
-pub rows-long : (n : ℕ) (list : List ℕ) → 11 * n ≤ length list → length (rowLines n list) ≡ 23 * n
+pub rows-long : (n : ℕ) (list : List ℕ) → rowSize * n ≤ length list → length (rowLines n list) ≡ rowLine * n
 rows-long zero list h = refl
 rows-long (suc n) list h =
-    let a = line-long list 0 11 (omega arith) in
-    let b = rows-long n (drop 11 list) (omega (arith, length-drop 11 list)) in
-    length-append (lineOf (take 11 list)) (rowLines n (drop 11 list)) ∙ omega arith
+    let a = line-long list 0 rowSize (omega arith) in
+    let b = rows-long n (drop rowSize list) (omega (arith, length-drop rowSize list)) in
+    length-append (lineOf (take rowSize list)) (rowLines n (drop rowSize list)) ∙ omega arith
 
-rows-snoc : (n : ℕ) (list : List ℕ) → rowLines (suc n) list ≡ rowLines n list ++ lineOf (take 11 (drop (11 * n) list))
-rows-snoc zero list = append-nil (lineOf (take 11 list))
+rows-snoc : (n : ℕ) (list : List ℕ) → rowLines (suc n) list ≡ rowLines n list ++ lineOf (take rowSize (drop (rowSize * n) list))
+rows-snoc zero list = append-nil (lineOf (take rowSize list))
 rows-snoc (suc n) list =
-    let e : 11 + 11 * n ≡ 11 * suc n = omega arith in
-    let d : drop (11 * n) (drop 11 list) ≡ drop (11 * suc n) list = drop-drop (11 * n) 11 list ∙ ap (λ (k : ℕ). drop k list) e in
-    ap (λ (l : List ℕ). lineOf (take 11 list) ++ l) (rows-snoc n (drop 11 list) ∙ ap (λ (l : List ℕ). rowLines n (drop 11 list) ++ lineOf (take 11 l)) d)
-    ∙ sym (append-assoc (lineOf (take 11 list)) (rowLines n (drop 11 list)) (lineOf (take 11 (drop (11 * suc n) list))))
+    let e : rowSize + rowSize * n ≡ rowSize * suc n = omega arith in
+    let d : drop (rowSize * n) (drop rowSize list) ≡ drop (rowSize * suc n) list = drop-drop (rowSize * n) rowSize list ∙ ap (λ (k : ℕ). drop k list) e in
+    ap (λ (l : List ℕ). lineOf (take rowSize list) ++ l) (rows-snoc n (drop rowSize list) ∙ ap (λ (l : List ℕ). rowLines n (drop rowSize list) ++ lineOf (take rowSize l)) d)
+    ∙ sym (append-assoc (lineOf (take rowSize list)) (rowLines n (drop rowSize list)) (lineOf (take rowSize (drop (rowSize * suc n) list))))
 
 pub record RowsPut (list : List ℕ) (j at : ℕ) (was out : List ℕ) : Type 0 where
   pub put : Put (rowLines j list) at was out
@@ -113,8 +114,8 @@ pub record RowsPut (list : List ℕ) (j at : ℕ) (was out : List ℕ) : Type 0 
 pub rows-start : (list : List ℕ) (at : ℕ) (was : List ℕ) → RowsPut list 0 at was was
 rows-start list at was = record { put = put-none was at }
 
-pub rows-next : {list : List ℕ} {j at : ℕ} {was mid out : List ℕ} → 11 * (j + 1) ≤ length list → at + 23 * j ≤ length was → RowsPut list j at was mid
-    → Put (lineOf (take 11 (drop (11 * j) list))) (at + 23 * j) mid out → RowsPut list (j + 1) at was out
+pub rows-next : {list : List ℕ} {j at : ℕ} {was mid out : List ℕ} → rowSize * (j + 1) ≤ length list → at + rowLine * j ≤ length was → RowsPut list j at was mid
+    → Put (lineOf (take rowSize (drop (rowSize * j) list))) (at + rowLine * j) mid out → RowsPut list (j + 1) at was out
 rows-next {list} {j} {at} {was} {mid} {out} h g R P =
-    let e : length (rowLines j list) ≡ 23 * j = rows-long j list (omega arith) in
+    let e : length (rowLines j list) ≡ rowLine * j = rows-long j list (omega arith) in
     record { put = rw (add-one, rows-snoc) (put-more (omega arith) (R .put) (rw e P)) }

@@ -1,6 +1,6 @@
 -- What a line answers, from the bytes read of it. Its digits have one reading, so a frame of it has these bytes and no others: where there are none,
 -- or they have another number than their kind asks for, the line is no frame.
-use Prim.Native.Nat.{ℕ, zero, suc, _≤_, _<_}
+use Prim.Native.Nat.{ℕ, zero, suc, _+_, _≤_, _<_}
 use mathlib.Core.Path.{_≡_, sym, ap, subst, _∙_}
 use mathlib.Core.Bool.{Bool, true, false}
 use mathlib.Core.List.{List, [], _∷_}
@@ -9,8 +9,8 @@ use lib.ListN.{length, take}
 use lib.Dec.{eqb}
 use lib.Seq.{getD-take, length-take-le}
 use Rattle.rules.specs.declared.State.{State}
-use Rattle.rules.specs.Answer.{Unless}
-use Rattle.rules.specs.Portal.{byteAt}
+use Rattle.rules.specs.Bytes.{byteAt, placeSize, linkSize, answerRoom}
+use Rattle.rules.specs.Gate.{Unless}
 use Rattle.rules.specs.Frames.{lineOf, lengthBy, frameLength, Frame, Said, PlaceFrame, LinkFrame, PlanFrame, BookFrame, CancelFrame, PageFrame, FrameSays, LineSays}
 use Rattle.unique.specs.Hex.{AreBytes, hex-injective}
 use Rattle.frames.specs.declared.Line.{Line}
@@ -22,9 +22,9 @@ use Rattle.frames.specs.Told.{Spoken, Silent}
 abbrev pub Tells : State → Line → State → List ℕ → Type 0
 Tells s l s′ said = (line : List ℕ) → LineIs line l → LineSays s line s′ said
 
--- no answer is longer than 30,000 bytes: a shorter list is left as it is, and the state too
+-- every answer fits into answerRoom bytes: a shorter list is left as it is, and the state too
 abbrev pub AnswerIs : State → Line → List ℕ → List ℕ → Told → Type 0
-AnswerIs s l was out r = Unless (30000 ≤ length was) (Silent s was out r) (Spoken (Tells s l) was out r)
+AnswerIs s l was out r = Unless (answerRoom ≤ length was) (Silent s was out r) (Spoken (Tells s l) was out r)
 
 abbrev pub Reads : Line → List ℕ → ℕ → Type 0
 Reads l bytes n = (line : List ℕ) → LineIs line l → Decoded line bytes n
@@ -36,7 +36,7 @@ by-test false n m h k = k
 pub length-few : (k : ℕ) → frameLength k ≤ 9
 unfolding frameLength
 length-few k =
-    by-test (eqb k 1) 4 _ (omega arith) (by-test (eqb k 2) 3 _ (omega arith) (by-test (eqb k 3) 6 _ (omega arith)
+    by-test (eqb k 1) (1 + placeSize) _ (omega arith) (by-test (eqb k 2) (1 + linkSize) _ (omega arith) (by-test (eqb k 3) 6 _ (omega arith)
     (by-test (eqb k 4) 6 _ (omega arith) (by-test (eqb k 5) 4 _ (omega arith) (by-test (eqb k 6) 9 0 (omega arith) (omega arith))))))
 
 pub no-frame : {s s′ : State} {l : Line} {bytes said : List ℕ} {n : ℕ} → n ≡ 0 → Reads l bytes n → Said s (lineOf (12 ∷ [])) s′ said → Tells s l s′ said
@@ -99,7 +99,7 @@ module _ (bytes : List ℕ) (n : ℕ) where
   kind k j e f h g = let x = byte 0 h in f (omega arith)
 
 module _ (s : State) (bytes : List ℕ) (n : ℕ) (s′ : State) (said : List ℕ) where
-  pub place-says : byteAt bytes 0 ≡ 1 → n ≡ 4 → PlaceFrame s bytes s′ said → FrameSays s (take n bytes) s′ said
+  pub place-says : byteAt bytes 0 ≡ 1 → n ≡ 1 + placeSize → PlaceFrame s bytes s′ said → FrameSays s (take n bytes) s′ said
   place-says k e p = record {
     place = λ _. rw (byte bytes n 1 (omega arith), byte bytes n 2 (omega arith), byte bytes n 3 (omega arith)) p;
     link = λ g. absurd (kind bytes n 1 2 k (λ x. omega arith) (omega arith) g);
@@ -109,7 +109,7 @@ module _ (s : State) (bytes : List ℕ) (n : ℕ) (s′ : State) (said : List �
     page = λ g. absurd (kind bytes n 1 6 k (λ x. omega arith) (omega arith) g);
   }
 
-  pub link-says : byteAt bytes 0 ≡ 2 → n ≡ 3 → LinkFrame s bytes s′ said → FrameSays s (take n bytes) s′ said
+  pub link-says : byteAt bytes 0 ≡ 2 → n ≡ 1 + linkSize → LinkFrame s bytes s′ said → FrameSays s (take n bytes) s′ said
   link-says k e p = record {
     place = λ g. absurd (kind bytes n 2 1 k (λ x. omega arith) (omega arith) g);
     link = λ _. rw (byte bytes n 1 (omega arith), byte bytes n 2 (omega arith)) p;

@@ -6,6 +6,7 @@ use mathlib.Core.List.{List, _++_}
 use native.Mathlib.Omega.{arith}
 use lib.ListN.{length, take, drop, length-append}
 use Rattle.rules.specs.declared.State.{State}
+use Rattle.rules.specs.Bytes.{rowSize, rowLine, answerRoom}
 use Rattle.rules.specs.Frames.{lineOf, rowLines}
 use Rattle.frames.specs.declared.Told.{Told}
 use Rattle.frames.specs.Put.{Put, RowsPut, put-more, put-front, put-rest, line-long, rows-long}
@@ -19,7 +20,7 @@ pub record Answers (said was out : List ℕ) (len : ℕ) : Type 0 where
 pub record Spoken (P : State → List ℕ → Type 0) (was out : List ℕ) (r : Told) : Type 0 where
   pub says : P (r .state) (take (r .len) out)
   pub kept : drop (r .len) out ≡ drop (r .len) was
-  pub fits : r .len ≤ 30000
+  pub fits : r .len ≤ answerRoom
   pub long : length out ≡ length was
 
 -- map and book as they were
@@ -35,7 +36,7 @@ pub record Silent (s : State) (was out : List ℕ) (r : Told) : Type 0 where
 pub silent : (s : State) (was : List ℕ) → Silent s was was (record { state = s; len = 0 })
 silent s was = record { stays = refl; none = refl; same = refl }
 
-pub spoken : (P : State → List ℕ → Type 0) {said was out : List ℕ} (s : State) (len : ℕ) → Answers said was out len → length said ≤ 30000 → P s said
+pub spoken : (P : State → List ℕ → Type 0) {said was out : List ℕ} (s : State) (len : ℕ) → Answers said was out len → length said ≤ answerRoom → P s said
     → Spoken P was out (record { state = s; len = len })
 spoken P {said} {was} {out} s len A h p = record {
   says = rw (A .count, put-front (A .put)) p;
@@ -48,9 +49,9 @@ pub spoken-so : {P Q : State → List ℕ → Type 0} {was out : List ℕ} {r : 
 spoken-so f S = record { says = f _ _ (S .says); kept = S .kept; fits = S .fits; long = S .long }
 
 -- a first line, and row lines behind it
-pub answer-lines : (head list : List ℕ) (n rows : ℕ) {was mid out : List ℕ} → n ≤ length head → 2 * n + 1 ≤ length was → 11 * rows ≤ length list
+pub answer-lines : (head list : List ℕ) (n rows : ℕ) {was mid out : List ℕ} → n ≤ length head → 2 * n + 1 ≤ length was → rowSize * rows ≤ length list
     → Put (lineOf (take n (drop 0 head))) 0 was mid → RowsPut list rows (2 * n + 1) mid out
-    → Answers (lineOf (take n head) ++ rowLines rows list) was out (2 * n + 1 + 23 * rows)
+    → Answers (lineOf (take n head) ++ rowLines rows list) was out (2 * n + 1 + rowLine * rows)
 answer-lines head list n rows {was} {mid} {out} h g k P R =
     let e : length (lineOf (take n head)) ≡ 2 * n + 1 = line-long head 0 n (omega arith) in
     let z : 0 + length (lineOf (take n head)) ≡ 2 * n + 1 = omega arith in

@@ -8,7 +8,8 @@ use lib.ListN.{length, take, drop, replicate, take-append-drop}
 use lib.Seq.{length-take-le}
 use Rattle.laws.specs.Order.{lt-or-ge}
 use Rattle.rules.specs.declared.State.{State}
-use Rattle.unique.specs.Unique.{both}
+use Rattle.rules.specs.Bytes.{answerRoom}
+use Rattle.rules.specs.GateLaws.{both}
 use Rattle.unique.specs.Line.{no-second-line, no-second-lines}
 use Rattle.frames.specs.declared.Line.{Line}
 use Rattle.frames.specs.declared.Desk.{Desk}
@@ -33,8 +34,9 @@ module _ {was out out′ : List ℕ} {r r′ : Told} where
       let b = p .none ∙ sym (q .none) in
       (λ i. record { state = a i; len = b i }, p .same ∙ sym (q .same))
 
-  spoken-same : {P : State → List ℕ → Type 0} → (P (r .state) (take (r .len) out) → P (r′ .state) (take (r′ .len) out′) → (r .state ≡ r′ .state) × (take (r .len) out ≡ take (r′ .len) out′))
-      → 30000 ≤ length was
+  spoken-same : {P : State → List ℕ → Type 0}
+      → (P (r .state) (take (r .len) out) → P (r′ .state) (take (r′ .len) out′) → (r .state ≡ r′ .state) × (take (r .len) out ≡ take (r′ .len) out′))
+      → answerRoom ≤ length was
       → Spoken P was out r → Spoken P was out′ r′ → (r ≡ r′) × (out ≡ out′)
   spoken-same one h p q =
       let e = one (p .says) (q .says) in

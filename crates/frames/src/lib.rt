@@ -9,6 +9,7 @@ use rules::Paged;
 use rules::Place;
 use rules::Planned;
 use rules::Refusal;
+use rules::Row;
 use rules::State;
 ghost use mathlib.Core.Path.{_≡_};
 ghost use mathlib.Core.Bool.{true};
@@ -16,8 +17,10 @@ ghost use Prim.Native.Nat.{ℕ, _+_, _*_, _%_, _<_, _≤_};
 ghost use mathlib.Core.List.{List, [], _∷_, _++_};
 ghost use lib.ListN.{length, take, drop};
 ghost use Rattle.rules.specs.Rows.{bit};
-ghost use Rattle.rules.specs.Answer.{number, plannedNumber, plannedArrival, plannedCount, bookedNumber, bookedTicket, bookedArrival, bookedCount, cancelledNumber, cancelledCount, pagedNumber, pagedCount, pagedMore};
-ghost use Rattle.rules.specs.Frames.{digit, hexOf, lineOf, rowLines, after00, bytes2, bytes3, closedWith, Said, PlaceFrame, LinkFrame, PlanFrame, BookFrame, CancelFrame, PageFrame, begins};
+ghost use Rattle.rules.specs.Bytes.{bytes2, bytes3, rowSize, rowLine, answerRoom};
+ghost use Rattle.rules.specs.Answer.{number, plannedNumber, plannedArrival, plannedCount, pagedNumber, pagedCount, pagedMore};
+ghost use Rattle.rules.specs.Answer.{bookedNumber, bookedTicket, bookedArrival, bookedCount, cancelledNumber, cancelledCount};
+ghost use Rattle.rules.specs.Frames.{digit, hexOf, lineOf, rowLines, after00, closedWith, Said, PlaceFrame, LinkFrame, PlanFrame, BookFrame, CancelFrame, PageFrame, begins};
 ghost use Rattle.unique.specs.Hex.{Value};
 ghost use Rattle.frames.specs.Lines.{LineIs, Decoded, FormIs, changesBy};
 ghost use Rattle.frames.specs.Heads.{HeadIs};
@@ -138,16 +141,24 @@ struct Form {
     decoder: Decoder,
 }
 
+impl Form {
+    // "01 capacity(1) duration(2)"
+    const PLACE: usize = 1 + Place::BYTES;
+
+    // "02 from(1) to(1)"
+    const LINK: usize = 1 + Link::BYTES;
+}
+
 fn form_of(kind: u8) -> Form
     ensures { λ r. ⌜ FormIs kind r ⌝ }
 {
     match kind {
         1 => Form {
-            length: 4,
+            length: Form::PLACE,
             decoder: Decoder::Place,
         },
         2 => Form {
-            length: 3,
+            length: Form::LINK,
             decoder: Decoder::Link,
         },
         3 => Form {
@@ -267,13 +278,13 @@ fn put_line(list: &[u8], from: usize, n: usize, at: usize, out: &mut [u8])
 
 // A line for each of the first n records of a list.
 fn put_rows(list: &[u8], n: usize, at: usize, out: &mut [u8])
-    requires { ⌜ 11 * n ≤ length (now list) ⌝ }
-    requires { ⌜ at + 23 * n ≤ length (now out) ⌝ }
+    requires { ⌜ rowSize * n ≤ length (now list) ⌝ }
+    requires { ⌜ at + rowLine * n ≤ length (now out) ⌝ }
     ensures { λ _. ⌜ RowsPut (now (list .entry)) n at (now (out .entry)) (now (out .exit)) ⌝ }
 {
     let mut j: usize = 0;
     while j < n {
-        put_line(list, 11 * j, 11, at + 23 * j, out);
+        put_line(list, Row::BYTES * j, Row::BYTES, at + Row::LINE * j, out);
         j += 1;
     }
 }
@@ -395,8 +406,8 @@ fn page_head(p: Paged) -> Head
 // An answer's lines: the first, and the row lines.
 fn put_answer(h: Head, list: &[u8], rows: usize, out: &mut [u8]) -> usize
     requires { ⌜ (h .count ≤ 9) × (length (h .bytes) ≡ 9) ⌝ }
-    requires { ⌜ 11 * rows ≤ length (now list) ⌝ }
-    requires { ⌜ 19 + 23 * rows ≤ length (now out) ⌝ }
+    requires { ⌜ rowSize * rows ≤ length (now list) ⌝ }
+    requires { ⌜ 19 + rowLine * rows ≤ length (now out) ⌝ }
     ensures { λ r. ⌜ Answers (lineOf (take (h .count) (h .bytes)) ++ rowLines rows (now (list .entry))) (now (out .entry)) (now (out .exit)) r ⌝ }
 {
     let n = h.count;
@@ -404,7 +415,7 @@ fn put_answer(h: Head, list: &[u8], rows: usize, out: &mut [u8]) -> usize
     put_line(&bytes, 0, n, 0, out);
     let at = 2 * n + 1;
     put_rows(list, rows, at, out);
-    at + 23 * rows
+    at + Row::LINE * rows
 }
 
 // ---- frames
@@ -427,7 +438,7 @@ fn put_number(x: u8, out: &mut [u8]) -> usize
 
 // "A line refused with 12 changes nothing."
 fn refused(s: State, out: &mut [u8]) -> Told
-    requires { ⌜ 30000 ≤ length (now out) ⌝ }
+    requires { ⌜ answerRoom ≤ length (now out) ⌝ }
     ensures { λ r. ⌜ Spoken (Said s (lineOf (12 ∷ []))) (now (out .entry)) (now (out .exit)) r ⌝ }
 {
     let len = put_number(12, out);
@@ -436,7 +447,7 @@ fn refused(s: State, out: &mut [u8]) -> Told
 
 fn place_frame(s: State, b: &[u8; 9], out: &mut [u8]) -> Told
     requires { ⌜ length (now b) ≡ 9 ⌝ }
-    requires { ⌜ 30000 ≤ length (now out) ⌝ }
+    requires { ⌜ answerRoom ≤ length (now out) ⌝ }
     ensures { λ r. ⌜ Spoken (PlaceFrame s (now (b .entry))) (now (out .entry)) (now (out .exit)) r ⌝ }
 {
     if s.closed {
@@ -444,7 +455,7 @@ fn place_frame(s: State, b: &[u8; 9], out: &mut [u8]) -> Told
     }
     let mut m = s.map;
     let n = m.place_count;
-    if n >= 256 {
+    if n >= Map::PLACES {
         return refused(s, out);
     }
     let duration = wire::two(b, 2) as u16;
@@ -467,7 +478,7 @@ fn place_frame(s: State, b: &[u8; 9], out: &mut [u8]) -> Told
 
 fn link_frame(s: State, b: &[u8; 9], out: &mut [u8]) -> Told
     requires { ⌜ length (now b) ≡ 9 ⌝ }
-    requires { ⌜ 30000 ≤ length (now out) ⌝ }
+    requires { ⌜ answerRoom ≤ length (now out) ⌝ }
     ensures { λ r. ⌜ Spoken (LinkFrame s (now (b .entry))) (now (out .entry)) (now (out .exit)) r ⌝ }
 {
     if s.closed {
@@ -475,7 +486,7 @@ fn link_frame(s: State, b: &[u8; 9], out: &mut [u8]) -> Told
     }
     let mut m = s.map;
     let n = m.link_count;
-    if n >= 1024 {
+    if n >= Map::LINKS {
         return refused(s, out);
     }
     m.links[n] = Link {
@@ -513,7 +524,7 @@ fn wide(x: u8) -> u32
 
 fn plan_frame(s: State, b: &[u8; 9], out: &mut [u8]) -> usize
     requires { ⌜ length (now b) ≡ 9 ⌝ }
-    requires { ⌜ 30000 ≤ length (now out) ⌝ }
+    requires { ⌜ answerRoom ≤ length (now out) ⌝ }
     ensures { λ r. ⌜ Spoken (PlanFrame s (now (b .entry))) (now (out .entry)) (now (out .exit)) (kept s true r) ⌝ }
 {
     let m = s.map;
@@ -521,7 +532,7 @@ fn plan_frame(s: State, b: &[u8; 9], out: &mut [u8]) -> usize
     let start = wide(b[1]);
     let destination = wide(b[2]);
     let second = wire::three(b, 3);
-    let mut list = [0u8; 14080];
+    let mut list = [0u8; Row::LIST];
     let p = planning::plan(m, book, start, destination, second, &mut list);
     let h = plan_head(p);
     let rows = p.count();
@@ -530,7 +541,7 @@ fn plan_frame(s: State, b: &[u8; 9], out: &mut [u8]) -> usize
 
 fn book_frame(s: State, b: &[u8; 9], out: &mut [u8]) -> Told
     requires { ⌜ length (now b) ≡ 9 ⌝ }
-    requires { ⌜ 30000 ≤ length (now out) ⌝ }
+    requires { ⌜ answerRoom ≤ length (now out) ⌝ }
     ensures { λ r. ⌜ Spoken (BookFrame s (now (b .entry))) (now (out .entry)) (now (out .exit)) r ⌝ }
 {
     let m = s.map;
@@ -552,7 +563,7 @@ fn book_frame(s: State, b: &[u8; 9], out: &mut [u8]) -> Told
 
 fn cancel_frame(s: State, b: &[u8; 9], out: &mut [u8]) -> Told
     requires { ⌜ length (now b) ≡ 9 ⌝ }
-    requires { ⌜ 30000 ≤ length (now out) ⌝ }
+    requires { ⌜ answerRoom ≤ length (now out) ⌝ }
     ensures { λ r. ⌜ Spoken (CancelFrame s (now (b .entry))) (now (out .entry)) (now (out .exit)) r ⌝ }
 {
     let m = s.map;
@@ -572,7 +583,7 @@ fn cancel_frame(s: State, b: &[u8; 9], out: &mut [u8]) -> Told
 
 fn page_frame(s: State, b: &[u8; 9], out: &mut [u8]) -> usize
     requires { ⌜ length (now b) ≡ 9 ⌝ }
-    requires { ⌜ 30000 ≤ length (now out) ⌝ }
+    requires { ⌜ answerRoom ≤ length (now out) ⌝ }
     ensures { λ r. ⌜ Spoken (PageFrame s (now (b .entry))) (now (out .entry)) (now (out .exit)) (kept s true r) ⌝ }
 {
     let m = s.map;
@@ -586,7 +597,7 @@ fn page_frame(s: State, b: &[u8; 9], out: &mut [u8]) -> usize
         entry: entry,
         ticket: ticket,
     };
-    let mut list = [0u8; 14080];
+    let mut list = [0u8; Row::LIST];
     let p = paging::page(m, book, size, cursor, &mut list);
     let h = page_head(p);
     let rows = p.count();
@@ -595,7 +606,7 @@ fn page_frame(s: State, b: &[u8; 9], out: &mut [u8]) -> usize
 
 // What a line that changes map or book makes of the state; the decoders of other lines are not given here.
 fn order(s: State, w: Word, out: &mut [u8]) -> Told
-    requires { ⌜ 30000 ≤ length (now out) ⌝ }
+    requires { ⌜ answerRoom ≤ length (now out) ⌝ }
     ensures { λ r. ⌜ OrderIs s w (now (out .entry)) (now (out .exit)) r ⌝ }
 {
     let bytes = w.bytes;
@@ -619,7 +630,7 @@ struct Asked {
 
 // "A line refused with 12 changes nothing."
 fn no_frame(s: State, out: &mut [u8]) -> Asked
-    requires { ⌜ 30000 ≤ length (now out) ⌝ }
+    requires { ⌜ answerRoom ≤ length (now out) ⌝ }
     ensures { λ r. ⌜ Spoken (Said s (lineOf (12 ∷ []))) (now (out .entry)) (now (out .exit)) (kept s (r .closed) (r .len)) ⌝ }
 {
     let len = put_number(12, out);
@@ -631,7 +642,7 @@ fn no_frame(s: State, out: &mut [u8]) -> Asked
 
 // The decoders of lines that change map or book are not given here.
 fn ask(s: State, w: Word, out: &mut [u8]) -> Asked
-    requires { ⌜ 30000 ≤ length (now out) ⌝ }
+    requires { ⌜ answerRoom ≤ length (now out) ⌝ }
     ensures { λ r. ⌜ AskedIs s w (now (out .entry)) (now (out .exit)) r ⌝ }
 {
     let bytes = w.bytes;
@@ -664,7 +675,7 @@ fn ask(s: State, w: Word, out: &mut [u8]) -> Asked
 pub fn answer(s: State, l: Line, out: &mut [u8]) -> Told
     ensures { λ r. ⌜ AnswerIs s l (now (out .entry)) (now (out .exit)) r ⌝ }
 {
-    if out.len() < 30000 {
+    if out.len() < Row::ANSWER {
         return Told { state: s, len: 0 };
     }
     let w = word_of(l);
@@ -738,7 +749,7 @@ pub fn fed(d: Desk, buf: &[u8], from: usize, out: &mut [u8]) -> Intake
     let mut i = from;
     let mut at: usize = 0;
     while i < buf.len() {
-        if out.len() - at < 30000 {
+        if out.len() - at < Row::ANSWER {
             return Intake {
                 desk: Desk {
                     state: s,
@@ -818,8 +829,8 @@ impl Desk {
         };
         let link = Link { from: 0, to: 0 };
         let m = Map {
-            places: [place; 256],
-            links: [link; 1024],
+            places: [place; Map::PLACES],
+            links: [link; Map::LINKS],
             place_count: 0,
             link_count: 0,
         };

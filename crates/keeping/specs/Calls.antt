@@ -1,7 +1,6 @@
 -- A good book stays good through a booking and a cancellation, whatever they answer: a refusal leaves it as it is, and what is done keeps it
 -- well formed. So every book that comes of an empty one by calls is good.
 use mathlib.Core.Path.{sym, subst}
-use mathlib.Core.Logic.{inl, inr}
 use mathlib.Core.List.{List, []}
 use Prim.Native.Nat.{ℕ, _+_, _<_, _≤_}
 use native.Mathlib.Nat.{min-le-left}
@@ -16,23 +15,19 @@ use Rattle.rules.specs.Map.{Yard, GoodMap, mapYard}
 use Rattle.rules.specs.Plan.{Stay, Permitted}
 use Rattle.rules.specs.Book.{GoodBook, rowsOf, bookOf}
 use Rattle.rules.specs.Chosen.{Chosen}
-use Rattle.rules.specs.Answer.{Unless, BookIs, BookingIs, BookDone, CancelIs, CancellingIs, CancelDone}
+use Rattle.rules.specs.GateLaws.{unless, checked}
+use Rattle.rules.specs.Answer.{BookIs, BookingIs, BookDone, CancelIs, CancellingIs, CancelDone}
 use Rattle.lanes.specs.Yards.{YardRules, yard-rules}
 use Rattle.lanes.specs.Chosen.{chosen-best}
 use Rattle.keeping.specs.Keeping.{empty-formed, book-keeps, cancel-keeps}
 use Rattle.keeping.specs.Books.{good-book}
-
--- refused by this number, or not
-pub unless : {ok bad rest X : Type 0} → (bad → X) → (ok → rest → X) → Unless ok bad rest → X
-unless f g (inl x) = f (x .1)
-unless f g (inr y) = g (y .0) (y .1)
 
 pub empty-good : (Y : Yard) → GoodBook Y (bookOf [] 1)
 empty-good Y = good-book (empty-formed Y)
 
 pub booking-good : {m : Map} {b : Book} {start dest s : ℕ} {r : Booking} → BookIs m b start dest s r → GoodBook (mapYard m) b → GoodBook (mapYard m) (r .book)
 booking-good {m} {b} {start} {dest} {s} {r} h G =
-    unless same (λ M. unless same (λ o. unless same (λ on. unless same (λ d. unless same (λ t. unless same (λ some c. unless same (done M (on .1) t (c .0) (c .1)) (c .2))))))) h
+    checked (λ n _. same) (λ M _. unless same (λ on. unless same (λ d. unless same (λ t. unless same (λ some c. unless same (done M (on .1) t (c .0) (c .1)) (c .2)))))) h
   where
     same : {n : ℕ} → BookingIs n 0 0 0 b r → GoodBook (mapYard m) (r .book)
     same x = subst (GoodBook (mapYard m)) (sym (x .holds)) G
@@ -47,7 +42,7 @@ booking-good {m} {b} {start} {dest} {s} {r} h G =
         subst (GoodBook Y) (sym (x .holds)) (good-book (book-keeps rules (G .formed) t P (omega arith)))
 
 pub cancelling-good : {m : Map} {b : Book} {ticket : ℕ} {r : Cancelling} → CancelIs m b ticket r → GoodBook (mapYard m) b → GoodBook (mapYard m) (r .book)
-cancelling-good {m} {b} {ticket} {r} h G = unless same (λ M. unless same (λ o. unless same (λ k x. done x))) h
+cancelling-good {m} {b} {ticket} {r} h G = checked (λ n _. same) (λ M _. unless same (λ k. done)) h
   where
     same : {n : ℕ} → CancellingIs n 0 b r → GoodBook (mapYard m) (r .book)
     same x = subst (GoodBook (mapYard m)) (sym (x .holds)) G

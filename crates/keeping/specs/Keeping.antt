@@ -2,7 +2,6 @@
 -- rows are what they were; load and exchange hold by what the plan was permitted for. A cancellation only takes a whole ticket's rows away.
 use mathlib.Core.Path.{_≡_, sym, ap, subst, _∙_}
 use mathlib.Core.Logic.{_⊎_, inl, inr, ⊎-elim}
-use mathlib.Core.Bool.{true, false}
 use mathlib.Core.List.{List, [], List·Memᴰ, List·Memᴰ·not-nil}
 use Prim.Native.Nat.{ℕ, _+_, _<_, _≤_}
 use native.Mathlib.Omega.{arith}
@@ -10,19 +9,20 @@ use lib.ListN.{length}
 use lib.Dec.{eqb}
 use borrow.Author.Tests.{eqb-false, ne-eqb, not-true}
 use Rattle.laws.specs.Order.{eq-or-ne}
-use Rattle.laws.specs.Tests.{true-or-false, not-both}
 use Rattle.laws.specs.Lists.{mem-index, index-mem}
 use Rattle.rules.specs.declared.Row.{Row}
-use Rattle.rules.specs.Limits.{rowLimit, ticketLimit}
+use Rattle.rules.specs.Limits.{placeLimit, rowLimit, ticketLimit}
 use Rattle.rules.specs.Map.{Yard}
-use Rattle.rules.specs.Rows.{Key, noRow, rowAt, load, crosses, keep, insertAll}
+use Rattle.rules.specs.Rows.{Key, noRow, rowAt, load, keep, insertAll}
+use Rattle.rules.specs.ByteLaws.{RowFits}
 use Rattle.rules.specs.Plan.{Stay, Permitted, runRows}
 use Rattle.rules.specs.Book.{Ranges, Whole, WellFormed, otherTicket}
 use Rattle.lanes.specs.Yards.{YardRules}
 use Rattle.keeping.specs.Chains.{rising-none}
 use Rattle.keeping.specs.Changes.{keep-mem, mem-keep, keep-rising, keep-le, all-length, mem-all, all-old, all-new, AllNew, all-rising}
-use Rattle.keeping.specs.Loads.{load-all, load-keep, crosses-row, row-crosses, crosses-all, crosses-keep}
-use Rattle.keeping.specs.Runs.{run-length, run-ticket, run-load, run-clear, run-tested, run-apart, run-meets-none}
+use Rattle.keeping.specs.Loads.{load-all, load-keep}
+use Rattle.keeping.specs.Runs.{run-length, run-ticket, run-load, run-tested, run-apart}
+use Rattle.keeping.specs.Unbarred.{unbarred-kept, unbarred-booked}
 
 pub empty-formed : (Y : Yard) → WellFormed Y [] 1
 unfolding load
@@ -40,6 +40,18 @@ empty-formed Y = record {
 -- the ranges of a row that stands in a book
 pub row-ranges : {Y : Yard} {rows : List Row} {t : ℕ} → WellFormed Y rows t → (r : Row) → List·Memᴰ r rows → Ranges Y t r
 row-ranges {Y} {rows} {t} W r m = let i = mem-index noRow m in subst (Ranges Y t) (i .2) (W .ranges (i .0) (i .1))
+
+-- so it fits its bytes
+pub row-fits : {Y : Yard} {rows : List Row} {t : ℕ} → Y .places ≤ placeLimit → WellFormed Y rows t → (r : Row) → List·Memᴰ r rows → RowFits r
+row-fits few W r m =
+    let R = row-ranges W r m in
+    record {
+      place = omega (arith, R .place);
+      entry = omega (arith, R .entry);
+      ticket = omega (arith, R .ticket-to, W .ticket-to);
+      exit = omega (arith, R .exit);
+      next = omega (arith, R .next);
+    }
 
 -- ---- booking
 
@@ -103,24 +115,6 @@ module _ {Y : Yard} (rules : YardRules Y) {rows : List Row} {t start dest s : �
         only = λ x d e. ⊎-elim (λ (n : List·Memᴰ x rows). o .only x n e) (λ (n : List·Memᴰ x new). absurd (other r m (sym e ∙ run-ticket t plan x n))) (book-rows t plan rows x d);
       }
 
-  -- a new row meets no booked one, and no booked one a new one
-  new-clear : (r : Row) → List·Memᴰ r new → (r .next ≡ r .place → ⊥) → crosses rows (r .next) (r .place) (r .exit) ≡ false
-  new-clear = run-clear t rows plan (P .exchange)
-
-  old-clear : (r : Row) → List·Memᴰ r rows → (r .next ≡ r .place → ⊥) → crosses new (r .next) (r .place) (r .exit) ≡ false
-  old-clear r m ne =
-      ⊎-elim
-      (λ (e : crosses new (r .next) (r .place) (r .exit) ≡ true).
-      let c = crosses-row (r .next) (r .place) (r .exit) new e in
-      let x = c .row in
-      let clear = new-clear x (c .booked) (λ e. ne (sym (c .from) ∙ sym e ∙ c .to)) in
-      absurd (not-both (row-crosses (x .next) (x .place) (x .exit) m (sym (c .to)) (sym (c .from)) (sym (c .at))) clear))
-      (λ (e : crosses new (r .next) (r .place) (r .exit) ≡ false). e)
-      (true-or-false (crosses new (r .next) (r .place) (r .exit)))
-
-  no-crossing : (p q e : ℕ) → crosses new p q e ≡ false → crosses rows p q e ≡ false → crosses book p q e ≡ false
-  no-crossing p q e a b = crosses-all p q e new rows ∙ rw (a, b)
-
   formed : t < ticketLimit → length rows + length plan ≤ rowLimit → WellFormed Y book (t + 1)
   formed before fits = record {
     few = omega (arith, all-length new rows, run-length t plan);
@@ -131,10 +125,7 @@ module _ {Y : Yard} (rules : YardRules Y) {rows : List Row} {t start dest s : �
         (book-rows t plan rows (rowAt book i) (index-mem noRow book i h));
     whole = λ r m. ⊎-elim (λ (d : List·Memᴰ r rows). old-whole r d) (λ (d : List·Memᴰ r new). subst (Whole Y book) (sym (run-ticket t plan r d)) new-whole) (book-rows t plan rows r m);
     room = λ p x h. omega (arith, load-all p x new rows, run-load t plan p x, P .room p x h);
-    exchange = λ r m ne. ⊎-elim
-        (λ (d : List·Memᴰ r rows). no-crossing (r .next) (r .place) (r .exit) (old-clear r d ne) (W .exchange r d ne))
-        (λ (d : List·Memᴰ r new). no-crossing (r .next) (r .place) (r .exit) (run-meets-none t rules plan (P .run) r d ne) (new-clear r d ne))
-        (book-rows t plan rows r m);
+    exchange = unbarred-booked t rules (P .run) rows (P .exchange) (W .exchange);
   }
 
 pub book-keeps : {Y : Yard} → YardRules Y → {rows : List Row} {t start dest s : ℕ} {plan : List Stay} → WellFormed Y rows t → t < 1000000
@@ -174,5 +165,5 @@ module _ {Y : Yard} {rows : List Row} {t : ℕ} (k : ℕ) (W : WellFormed Y rows
     ranges = λ i h. row-ranges W (rowAt rest i) (cancel-rows k rows (rowAt rest i) (index-mem noRow rest i h) .0);
     whole = rest-whole;
     room = λ p x h. omega (arith, load-keep p x (otherTicket k) rows, W .room p x h);
-    exchange = λ r m ne. crosses-keep (r .next) (r .place) (r .exit) (otherTicket k) rows (W .exchange r (cancel-rows k rows r m .0) ne);
+    exchange = unbarred-kept (otherTicket k) rows (W .exchange);
   }

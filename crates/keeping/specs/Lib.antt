@@ -3,6 +3,7 @@ pub mod Chains
 pub mod Changes
 pub mod Loads
 pub mod Runs
+pub mod Unbarred
 pub mod Keeping
 pub mod Books
 pub mod Calls

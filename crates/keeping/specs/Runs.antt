@@ -1,24 +1,21 @@
 -- A plan's rows under a ticket: as many as its stays, of its ticket alone, loading places as the stays do; each row passes the chain test;
--- entries rise along them, so that their keys differ; and no two of them meet head-on, because their exits differ too.
+-- entries and exits rise along them, so that their keys and their exits differ.
 use mathlib.Core.Path.{_≡_, refl, sym, ap, subst, _∙_}
 use mathlib.Core.Logic.{⊎-elim}
-use mathlib.Core.Bool.{true, false}
 use mathlib.Core.List.{List, [], _∷_, List·Memᴰ, List·Memᴰ·not-nil, List·Memᴰ·cases-cons}
 use Prim.Native.Nat.{ℕ, zero, suc, _+_, _<_, _≤_}
 use native.Mathlib.Omega.{arith}
 use lib.ListN.{length}
 use Rattle.laws.specs.Order.{lt-or-ge}
-use Rattle.laws.specs.Tests.{true-or-false}
 use Rattle.laws.specs.Lists.{mem-index}
 use Rattle.rules.specs.declared.Row.{Row}
 use Rattle.rules.specs.Map.{Yard}
-use Rattle.rules.specs.Rows.{Key, rowKey, noRow, rowAt, covers, bit, load, crosses}
+use Rattle.rules.specs.Rows.{Key, rowKey, noRow, rowAt, covers, bit, load}
 use Rattle.rules.specs.Plan.{Stay, stayAt, Plan, held, stayRow, runRows}
 use Rattle.rules.specs.Book.{Whole}
 use Rattle.lanes.specs.Yards.{YardRules}
 use Rattle.chains.specs.Test.{AllWhole, RowOk}
 use Rattle.chains.specs.Laws.{whole-tested, run-rises}
-use Rattle.keeping.specs.Loads.{crosses-row}
 
 module _ (k : ℕ) where
   pub run-length : (plan : List Stay) → length (runRows k plan) ≡ length plan
@@ -37,20 +34,6 @@ module _ (k : ℕ) where
   run-load [] p t = refl
   run-load (x ∷ []) p t = refl
   run-load (x ∷ (y ∷ ys)) p t = ap (λ (n : ℕ). bit (covers (x .place) (x .entry) (x .exit) p t) + n) (run-load (y ∷ ys) p t)
-
-  -- what holds of the crossings of a plan's stays holds of its rows: those that are not last
-  pub run-clear : (rows : List Row) (plan : List Stay)
-      → ((i : ℕ) → suc i < length plan → crosses rows ((stayAt plan (suc i)) .place) ((stayAt plan i) .place) ((stayAt plan i) .exit) ≡ false)
-      → (r : Row) → List·Memᴰ r (runRows k plan) → (r .next ≡ r .place → ⊥) → crosses rows (r .next) (r .place) (r .exit) ≡ false
-  run-clear rows [] f r m ne = absurd (List·Memᴰ·not-nil m)
-  run-clear rows (x ∷ []) f r m ne =
-      ⊎-elim (λ (e : r ≡ stayRow k x (x .place)). absurd (ne (ap (λ (r : Row). r .next) e ∙ sym (ap (λ (r : Row). r .place) e))))
-      (λ (d : List·Memᴰ r []). absurd (List·Memᴰ·not-nil d))
-      (List·Memᴰ·cases-cons m)
-  run-clear rows (x ∷ (y ∷ ys)) f r m ne =
-      ⊎-elim (λ (e : r ≡ stayRow k x (y .place)). subst (λ (r : Row). crosses rows (r .next) (r .place) (r .exit) ≡ false) (sym e) (f 0 (omega arith)))
-      (λ (d : List·Memᴰ r (runRows k (y ∷ ys))). run-clear rows (y ∷ ys) (λ i h. f (suc i) (omega arith)) r d ne)
-      (List·Memᴰ·cases-cons m)
 
   -- a plan's rows alone are its whole run
   pub run-whole : {Y : Yard} {plan : List Stay} → Plan Y plan → AllWhole Y (runRows k plan)
@@ -91,7 +74,7 @@ module _ (k : ℕ) where
         omega (arith, later plan P i j h (omega arith), run-entry plan i, run-entry plan j, q)
 
     -- rows of one exit are one row
-    same-exit : (plan : List Stay) → Plan Y plan → (r s : Row) → List·Memᴰ r (runRows k plan) → List·Memᴰ s (runRows k plan) → r .exit ≡ s .exit → r ≡ s
+    pub same-exit : (plan : List Stay) → Plan Y plan → (r s : Row) → List·Memᴰ r (runRows k plan) → List·Memᴰ s (runRows k plan) → r .exit ≡ s .exit → r ≡ s
     same-exit plan P r s m n e =
         let i = mem-index noRow m in
         let j = mem-index noRow n in
@@ -101,15 +84,3 @@ module _ (k : ℕ) where
         (λ (c : j .0 ≤ i .0). ⊎-elim (λ (d : j .0 < i .0). absurd (omega (arith, run-rises rules k plan P noRow (j .0) (i .0) d (i .1), a, b)))
         (λ (d : i .0 ≤ j .0). let o : i .0 ≡ j .0 = omega arith in sym (i .2) ∙ ap (rowAt (runRows k plan)) o ∙ j .2) (lt-or-ge (j .0) (i .0)))
         (lt-or-ge (i .0) (j .0))
-
-    -- no row of a plan meets another of it
-    pub run-meets-none : (plan : List Stay) → Plan Y plan → (r : Row) → List·Memᴰ r (runRows k plan) → (r .next ≡ r .place → ⊥)
-        → crosses (runRows k plan) (r .next) (r .place) (r .exit) ≡ false
-    run-meets-none plan P r m ne =
-        ⊎-elim
-        (λ (e : crosses (runRows k plan) (r .next) (r .place) (r .exit) ≡ true).
-        let c = crosses-row (r .next) (r .place) (r .exit) (runRows k plan) e in
-        let s = same-exit plan P (c .row) r (c .booked) m (c .at) in
-        absurd (ne (sym (c .from) ∙ ap (λ (r : Row). r .place) s)))
-        (λ (e : crosses (runRows k plan) (r .next) (r .place) (r .exit) ≡ false). e)
-        (true-or-false (crosses (runRows k plan) (r .next) (r .place) (r .exit)))

@@ -4,6 +4,7 @@ use libc::STDIN_FILENO;
 use libc::STDOUT_FILENO;
 ghost use Prim.Native.Nat.{_≤_};
 ghost use lib.ListN.{length};
+ghost use Rattle.rules.specs.Bytes.{answerRoom};
 ghost use Rattle.lanebook.specs.Turns.{Took};
 
 // What stands after a read, and whether to read on.
@@ -25,7 +26,7 @@ fn write(out: &[u8], n: usize) -> bool
 
 // What one read brought, answered: the answers are written whenever there is no room for one more, and at the end.
 fn answered(d: Desk, buf: &[u8], out: &mut [u8]) -> Turn
-    requires { ⌜ 30000 ≤ length (now out) ⌝ }
+    requires { ⌜ answerRoom ≤ length (now out) ⌝ }
     ensures { λ r. ⌜ Took d (now (buf .entry)) r ⌝ }
 {
     let mut desk = d;
@@ -43,7 +44,7 @@ fn answered(d: Desk, buf: &[u8], out: &mut [u8]) -> Turn
 
 // The last line, where it lacks its line feed.
 fn last(d: Desk, out: &mut [u8])
-    requires { ⌜ 30000 ≤ length (now out) ⌝ }
+    requires { ⌜ answerRoom ≤ length (now out) ⌝ }
 {
     let t = frames::ended(d, out);
     write(out, t.len);
@@ -51,7 +52,7 @@ fn last(d: Desk, out: &mut [u8])
 
 // One read, and its answers.
 fn sit(d: Desk, buf: &mut [u8], out: &mut [u8]) -> Turn
-    requires { ⌜ 30000 ≤ length (now out) ⌝ }
+    requires { ⌜ answerRoom ≤ length (now out) ⌝ }
 {
     let got = libc::read(STDIN_FILENO, buf);
     if got < 0 {
@@ -68,7 +69,7 @@ fn sit(d: Desk, buf: &mut [u8], out: &mut [u8]) -> Turn
 
 // A proved loop has to end, and nothing says that the input does: the turns are counted down from a number that no run uses up.
 fn run(buf: &mut [u8], out: &mut [u8])
-    requires { ⌜ 30000 ≤ length (now out) ⌝ }
+    requires { ⌜ answerRoom ≤ length (now out) ⌝ }
 {
     let d = Desk::first();
     let mut t = Turn { desk: d, on: true };

@@ -11,7 +11,7 @@ use Rattle.laws.specs.Order.{Least, NoneIn, least, lt-or-ge}
 use Rattle.rules.specs.declared.Row.{Row}
 use Rattle.rules.specs.Limits.{day}
 use Rattle.rules.specs.Map.{Yard}
-use Rattle.rules.specs.Rows.{crosses}
+use Rattle.rules.specs.Rows.{barred}
 use Rattle.rules.specs.Plan.{Stay, stayAt, Permitted}
 use Rattle.rules.specs.Window.{Free, Window, Span, Step}
 use Rattle.lanes.specs.Stays.{stay-safe}
@@ -70,7 +70,7 @@ module _ (Y : Yard) (B : List Row) (start s : ℕ) where
   -- a wagon that begins at `start` at second s can enter p at t, all its stays before that one done as a permitted plan does them
   pub data Reach : ℕ → ℕ → Type 0 where
     begin : Reach start s
-    go : {p t : ℕ} (q u : ℕ) → Reach p t → t + Y .dur p ≤ u → u ≤ day → Free Y B p t u → Y .link p q ≡ true → crosses B q p u ≡ false → Reach q u
+    go : {p t : ℕ} (q u : ℕ) → Reach p t → t + Y .dur p ≤ u → u ≤ day → Free Y B p t u → Y .link p q ≡ true → barred B p q u ≡ false → Reach q u
 
   -- each stay of a permitted plan is entered at a reached second
   pub plan-reach : {dest : ℕ} {plan : List Stay} → Permitted Y B start dest s plan → (i : ℕ) → i < length plan → Reach ((stayAt plan i) .place) ((stayAt plan i) .entry)

@@ -58,7 +58,7 @@ module _ (r : Row) (b : Book) where
   pub shift-none : Shifted r b b (b .count)
   shift-none = record { within = omega arith; moved = moved-none noRow (b .rows) (b .count); above = λ h. absurd (omega arith); ticket = refl }
 
-  module _ (long : length (b .rows) ≡ 1024) (fits : b .count < 1024) {out : Book} {j : ℕ} (S : Shifted r b out j) where
+  module _ (long : length (b .rows) ≡ rowLimit) (fits : b .count < rowLimit) {out : Book} {j : ℕ} (S : Shifted r b out j) where
     -- the row below is above r, and moves up
     pub shift-next : 0 < j → lessb (rowKey r) (rowKey (rowAt (out .rows) (j - 1))) ≡ true
         → Shifted r b (record { rows = set (out .rows) j (rowAt (out .rows) (j - 1)); count = out .count; «next_ticket» = out .«next_ticket» }) (j - 1)

@@ -10,6 +10,7 @@ use lib.Seq.{take-suc, take-length, length-take-le, getD-take}
 use Rattle.laws.specs.Lists.{mem-index, index-mem}
 use Rattle.rules.specs.declared.Row.{Row}
 use Rattle.rules.specs.declared.Book.{Book}
+use Rattle.rules.specs.Limits.{rowLimit}
 use Rattle.rules.specs.Rows.{rowKey, noRow, rowAt, Rising, insertRow, insertAll}
 use Rattle.rules.specs.Book.{rowsOf, bookOf}
 use Rattle.keeping.specs.Changes.{AllNew, all-length, all-rising}
@@ -64,25 +65,25 @@ pub record Inserting (new rows : List Row) (t i : ℕ) (s : Book) : Type 0 where
   pub holds : s ≡ bookOf (insertAll (take i new) rows) t
   pub rising : Rising rows
   pub all-new : AllNew new rows
-  pub fits : length rows + length new ≤ 1024
+  pub fits : length rows + length new ≤ rowLimit
 
 module _ {new rows : List Row} {t : ℕ} where
-  pub inserted-start : {b : Book} → b ≡ bookOf rows t → Rising rows → AllNew new rows → length rows + length new ≤ 1024 → Inserting new rows t 0 b
+  pub inserted-start : {b : Book} → b ≡ bookOf rows t → Rising rows → AllNew new rows → length rows + length new ≤ rowLimit → Inserting new rows t 0 b
   inserted-start e R N f = record { within = omega arith; holds = e; rising = R; all-new = N; fits = f }
 
   module _ {i : ℕ} {s : Book} (I : Inserting new rows t i s) where
     -- what `insert` asks
-    pub inserted-ready : i < length new → (s .count < 1024) × ((s ≡ bookOf (rowsOf s) (s .«next_ticket»)) × Rising (rowsOf s))
+    pub inserted-ready : i < length new → (s .count < rowLimit) × ((s ≡ bookOf (rowsOf s) (s .«next_ticket»)) × Rising (rowsOf s))
     inserted-ready h =
         let w = I .within in (
           omega (arith, count-held (insertAll (take i new) rows) t (I .holds), all-length (take i new) rows, length-take-le i new w, I .fits),
           (book-held (insertAll (take i new) rows) t (I .holds), rising-held (insertAll (take i new) rows) t (I .holds) (all-rising (take i new) rows (I .rising) (new-take new rows i w (I .all-new)))),
         )
 
-    pub inserted-long : length (s .rows) ≡ 1024
+    pub inserted-long : length (s .rows) ≡ rowLimit
     inserted-long =
         let l = insertAll (take i new) rows in
-        omega (arith, ap (λ (x : Book). length (x .rows)) (I .holds), length-append l (replicate (1024 - length l) noRow), length-replicate {A = Row} (1024 - length l) noRow, all-length (take i new) rows, length-take-le i new (I .within), I .fits)
+        omega (arith, ap (λ (x : Book). length (x .rows)) (I .holds), length-append l (replicate (rowLimit - length l) noRow), length-replicate {A = Row} (rowLimit - length l) noRow, all-length (take i new) rows, length-take-le i new (I .within), I .fits)
 
     pub inserted-next : {r : Row} {s′ : Book} → i < length new → r ≡ rowAt new i → s′ ≡ bookOf (insertRow r (rowsOf s)) (s .«next_ticket»)
         → Inserting new rows t (i + 1) s′

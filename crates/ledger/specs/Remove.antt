@@ -51,7 +51,7 @@ module _ (f : Row → Bool) where
     pub kept-le : i ≤ length rows → k ≤ i
     kept-le h = omega (arith, K .counts, keep-le f (take i rows), length-take-le i rows h)
 
-    pub kept-next : {out′ : List Row} {k′ : ℕ} → i < length rows → i < 1024 → f (rowAt rows i) ≡ true → out′ ≡ set out k (rowAt rows i) → k′ ≡ k + 1
+    pub kept-next : {out′ : List Row} {k′ : ℕ} → i < length rows → i < rowLimit → f (rowAt rows i) ≡ true → out′ ≡ set out k (rowAt rows i) → k′ ≡ k + 1
         → Kept rows out′ k′ (i + 1)
     kept-next {out′} {k′} h fits t o c =
         let p = keep f (take i rows) in
@@ -74,7 +74,7 @@ module _ (f : Row → Bool) where
         }
 
 -- all rows looked at
-module _ (ticket : ℕ) (b out : Book) (k : ℕ) (long : length (b .rows) ≡ 1024) (fits : b .count ≤ 1024)
+module _ (ticket : ℕ) (b out : Book) (k : ℕ) (long : length (b .rows) ≡ rowLimit) (fits : b .count ≤ rowLimit)
     (K : Kept (otherTicket ticket) (b .rows) (out .rows) k (b .count)) where
   pub kept-book : _≡_ {A = Book} (record { rows = out .rows; count = k; «next_ticket» = b .«next_ticket» }) (bookOf (keep (otherTicket ticket) (rowsOf b)) (b .«next_ticket»))
   kept-book =

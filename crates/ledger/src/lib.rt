@@ -6,6 +6,7 @@ ghost use mathlib.Core.List.{List, []};
 ghost use Prim.Native.Nat.{ℕ, _+_, _≤_, _<_};
 ghost use lib.ListN.{length};
 ghost use Rattle.rules.specs.declared.Row.{Row};
+ghost use Rattle.rules.specs.Limits.{rowLimit, ticketLimit};
 ghost use Rattle.rules.specs.Rows.{keep};
 ghost use Rattle.rules.specs.Book.{rowsOf, bookOf, ofTicket, otherTicket};
 
@@ -13,14 +14,8 @@ ghost use Rattle.rules.specs.Book.{rowsOf, bookOf, ofTicket, otherTicket};
 pub fn empty_book() -> Book
     ensures { λ r. ⌜ r ≡ bookOf [] 1 ⌝ }
 {
-    let none = Row {
-        place: 0,
-        entry: 0,
-        ticket: 0,
-        exit: 0,
-        next: 0,
-    };
-    let rows = [none; 1024];
+    let none = Row::none();
+    let rows = [none; Book::ROWS];
     Book {
         rows: rows,
         count: 0,
@@ -35,7 +30,7 @@ pub struct Removed {
 
 // the book without a ticket's rows, and how many they were
 pub fn remove_ticket(b: Book, ticket: u32) -> Removed
-    requires { ⌜ b .count ≤ 1024 ⌝ }
+    requires { ⌜ b .count ≤ rowLimit ⌝ }
     ensures { λ r. ⌜ (r .book ≡ bookOf (keep (otherTicket ticket) (rowsOf b)) (b .«next_ticket»)) × (r .count ≡ length (keep (ofTicket ticket) (rowsOf b))) ⌝ }
 {
     let n = b.count;
@@ -60,7 +55,7 @@ pub fn remove_ticket(b: Book, ticket: u32) -> Removed
 
 // the book with its next ticket issued
 pub fn issued(b: Book) -> Book
-    requires { ⌜ b .«next_ticket» < 1000000 ⌝ }
+    requires { ⌜ b .«next_ticket» < ticketLimit ⌝ }
     ensures { λ r. ⌜ ((l : List Row) (t : ℕ) → b ≡ bookOf l t → r ≡ bookOf l (t + 1)) ⌝ }
 {
     let mut out = b;

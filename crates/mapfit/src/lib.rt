@@ -1,9 +1,11 @@
 // Tests a map that is given as arrays, and links its links by place.
+use rules::Map;
 ghost use mathlib.Core.Path.{_≡_};
-ghost use mathlib.Core.Bool.{true, false};
 ghost use Prim.Native.Nat.{ℕ, _≤_, _<_};
 ghost use lib.ListN.{length};
 ghost use Rattle.laws.specs.Lists.{at};
+ghost use Rattle.laws.specs.Tests.{Decides};
+ghost use Rattle.rules.specs.Limits.{placeLimit, linkLimit};
 ghost use Rattle.rules.specs.Map.{linked};
 ghost use Rattle.flat.specs.Flat.{linksIn, Chained};
 ghost use Rattle.mapfit.specs.Fits.{PlaceFits, LinkFits, PlacesFit, LinksFit, Once, MapFits};
@@ -11,18 +13,18 @@ ghost use Rattle.mapfit.specs.Walk.{Linking, PlaceOnce};
 
 // a capacity from 1 to 16 and a duration from 1 to 3,600
 fn place_fits(c: u8, d: u32) -> bool
-    ensures { λ r. ⌜ (r ≡ true → PlaceFits c d) × (PlaceFits c d → r ≡ true) ⌝ }
+    ensures { λ r. ⌜ Decides r (PlaceFits c d) ⌝ }
 {
     if c < 1 {
         return false;
     }
-    if c > 16 {
+    if c > Map::CAPACITY {
         return false;
     }
     if d < 1 {
         return false;
     }
-    if d > 3600 {
+    if d > Map::DURATION {
         return false;
     }
     true
@@ -30,8 +32,8 @@ fn place_fits(c: u8, d: u32) -> bool
 
 // each of the first n places has a capacity and a duration within the limits
 fn places_fit(n: usize, cap: &[u8; 256], dur: &[u32; 256]) -> bool
-    requires { ⌜ n ≤ 256 ⌝ }
-    ensures { λ r. ⌜ (r ≡ true → PlacesFit (now (cap .entry)) (now (dur .entry)) n) × (PlacesFit (now (cap .entry)) (now (dur .entry)) n → r ≡ true) ⌝ }
+    requires { ⌜ n ≤ placeLimit ⌝ }
+    ensures { λ r. ⌜ Decides r (PlacesFit (now (cap .entry)) (now (dur .entry)) n) ⌝ }
 {
     let mut p = 0;
     while p < n {
@@ -45,7 +47,7 @@ fn places_fit(n: usize, cap: &[u8; 256], dur: &[u32; 256]) -> bool
 
 // a link between two different places of n
 fn link_fits(n: usize, f: u8, t: u8) -> bool
-    ensures { λ r. ⌜ (r ≡ true → LinkFits n f t) × (LinkFits n f t → r ≡ true) ⌝ }
+    ensures { λ r. ⌜ Decides r (LinkFits n f t) ⌝ }
 {
     if f as usize >= n {
         return false;
@@ -58,8 +60,8 @@ fn link_fits(n: usize, f: u8, t: u8) -> bool
 
 // each of the first k links is one between two different places of n
 fn links_fit(n: usize, k: usize, from: &[u8; 1024], to: &[u8; 1024]) -> bool
-    requires { ⌜ k ≤ 1024 ⌝ }
-    ensures { λ r. ⌜ (r ≡ true → LinksFit (now (from .entry)) (now (to .entry)) n k) × (LinksFit (now (from .entry)) (now (to .entry)) n k → r ≡ true) ⌝ }
+    requires { ⌜ k ≤ linkLimit ⌝ }
+    ensures { λ r. ⌜ Decides r (LinksFit (now (from .entry)) (now (to .entry)) n k) ⌝ }
 {
     let mut j = 0;
     while j < k {
@@ -80,7 +82,7 @@ fn place_index(p: u8) -> usize
 
 // the first k links by the place that they leave, each place's last link first
 fn chain_links(k: usize, from: &[u8; 1024], head: &mut [u16; 256], chain: &mut [u16; 1024])
-    requires { ⌜ k ≤ 1024 ⌝ }
+    requires { ⌜ k ≤ linkLimit ⌝ }
     requires { ⌜ length (now head) ≡ 256 ⌝ }
     requires { ⌜ length (now chain) ≡ 1024 ⌝ }
     requires { ⌜ ((p : ℕ) → at (now head) p ≡ 0) ⌝ }
@@ -106,7 +108,7 @@ fn place_once(
     mark: &mut [u16; 256],
 ) -> bool
     requires { ⌜ p < 256 ⌝ }
-    requires { ⌜ k ≤ 1024 ⌝ }
+    requires { ⌜ k ≤ linkLimit ⌝ }
     requires { ⌜ Chained (now from) k (now head) (now chain) ⌝ }
     requires { ⌜ ((q : ℕ) → at (now mark) q ≤ p) ⌝ }
     requires { ⌜ length (now mark) ≡ 256 ⌝ }
@@ -134,11 +136,11 @@ fn links_once(
     head: &[u16; 256],
     chain: &[u16; 1024],
 ) -> bool
-    requires { ⌜ n ≤ 256 ⌝ }
-    requires { ⌜ k ≤ 1024 ⌝ }
+    requires { ⌜ n ≤ placeLimit ⌝ }
+    requires { ⌜ k ≤ linkLimit ⌝ }
     requires { ⌜ Chained (now from) k (now head) (now chain) ⌝ }
     requires { ⌜ ((j : ℕ) → j < k → at (now from) j < n) ⌝ }
-    ensures { λ r. ⌜ (r ≡ true → Once (now (from .entry)) (now (to .entry)) k) × (Once (now (from .entry)) (now (to .entry)) k → r ≡ true) ⌝ }
+    ensures { λ r. ⌜ Decides r (Once (now (from .entry)) (now (to .entry)) k) ⌝ }
 {
     let mut mark = [0u16; 256];
     let mut p = 0;
@@ -170,10 +172,10 @@ pub fn map_fits(
     if n < 1 {
         return false;
     }
-    if n > 256 {
+    if n > Map::PLACES {
         return false;
     }
-    if k > 1024 {
+    if k > Map::LINKS {
         return false;
     }
     if !places_fit(n, cap, dur) {
@@ -197,7 +199,7 @@ pub fn linked_by(
     chain: &[u16; 1024],
 ) -> bool
     requires { ⌜ p < 256 ⌝ }
-    requires { ⌜ k ≤ 1024 ⌝ }
+    requires { ⌜ k ≤ linkLimit ⌝ }
     requires { ⌜ Chained (now from) k (now head) (now chain) ⌝ }
     ensures { λ r. ⌜ r ≡ linked (linksIn (now (from .entry)) (now (to .entry)) k) p q ⌝ }
 {

@@ -15,7 +15,8 @@ use Rattle.rules.specs.declared.Shown.{Shown}
 use Rattle.rules.specs.declared.Paged.the-variants.{Done}
 use Rattle.rules.specs.Rows.{Key, rowKey, cursorKey}
 use Rattle.rules.specs.Page.{after, pageRows, lastKey}
-use Rattle.rules.specs.Answer.{written, PageDone}
+use Rattle.rules.specs.Bytes.{written}
+use Rattle.rules.specs.Answer.{PageDone}
 use Rattle.flat.specs.Flat.{rowOf, rowsIn}
 use Rattle.flat.specs.Laws.{rows-long}
 use Rattle.wire.specs.Tables.{rowsFor, rows-for}

@@ -6,9 +6,11 @@ use wire::row_at;
 ghost use mathlib.Core.Path.{_≡_};
 ghost use Prim.Native.Nat.{_+_, _≤_, _<_};
 ghost use Rattle.rules.specs.declared.Paged.{Paged};
+ghost use Rattle.rules.specs.Limits.{rowLimit, pageLimit};
 ghost use Rattle.rules.specs.Rows.{cursorKey};
 ghost use Rattle.rules.specs.Page.{lastKey};
-ghost use Rattle.rules.specs.Answer.{records, PageDone};
+ghost use Rattle.rules.specs.Bytes.{records};
+ghost use Rattle.rules.specs.Answer.{PageDone};
 ghost use Rattle.flat.specs.Flat.{rowsIn, Packed, KeysRise};
 ghost use Rattle.wire.specs.Tables.{rowsFor};
 ghost use Rattle.pages.specs.Search.{FirstAfter};
@@ -16,7 +18,7 @@ ghost use Rattle.pages.specs.Shown.{Lesser};
 
 // The index of the first row above the cursor, count where there is none.
 pub fn first_after(key: &[u64; 1024], tail: &[u32; 1024], count: usize, c: Cursor) -> usize
-    requires { ⌜ count ≤ 1024 ⌝ }
+    requires { ⌜ count ≤ rowLimit ⌝ }
     requires { ⌜ KeysRise (now key) count ⌝ }
     requires { ⌜ Packed (now key) ⌝ }
     ensures { λ r. ⌜ FirstAfter (rowsIn (now (key .entry)) (now (tail .entry)) count) (cursorKey c) r ⌝ }
@@ -46,7 +48,7 @@ fn lesser(a: usize, b: usize) -> usize
 
 // The cursor after n rows from an index on: the last one's key, or the cursor given where there is none.
 fn cursor_after(key: &[u64; 1024], tail: &[u32; 1024], from: usize, n: usize, c: Cursor) -> Cursor
-    requires { ⌜ from + n ≤ 1024 ⌝ }
+    requires { ⌜ from + n ≤ rowLimit ⌝ }
     requires { ⌜ Packed (now key) ⌝ }
     ensures { λ r. ⌜ cursorKey r ≡ lastKey (cursorKey c) (rowsFor (now (key .entry)) (now (tail .entry)) from n) ⌝ }
 {
@@ -66,11 +68,11 @@ pub fn page_of(
     c: Cursor,
     out: &mut [u8],
 ) -> Shown
-    requires { ⌜ count ≤ 1024 ⌝ }
+    requires { ⌜ count ≤ rowLimit ⌝ }
     requires { ⌜ KeysRise (now key) count ⌝ }
     requires { ⌜ Packed (now key) ⌝ }
     requires { ⌜ 1 ≤ size ⌝ }
-    requires { ⌜ size ≤ 64 ⌝ }
+    requires { ⌜ size ≤ pageLimit ⌝ }
     requires { ⌜ size ≤ records (now out) ⌝ }
     ensures { λ r. ⌜ PageDone (rowsIn (now (key .entry)) (now (tail .entry)) count) size (cursorKey c) (now (out .entry)) (now (out .exit)) (Paged.Done r) ⌝ }
 {

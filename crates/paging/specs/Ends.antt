@@ -8,10 +8,16 @@ use native.Mathlib.Omega.{arith}
 use Rattle.rules.specs.declared.Row.{Row}
 use Rattle.rules.specs.declared.Shown.{Shown}
 use Rattle.rules.specs.declared.Paged.the-variants.{Done, Refused}
-use Rattle.rules.specs.declared.Refusal.the-variants.{BadMap, BadBook, ShortList, BadSize, BadCursor}
+use Rattle.rules.specs.declared.Refusal.{Refusal}
+use Rattle.rules.specs.declared.Refusal.the-variants.{ShortList, BadSize, BadCursor}
 use Rattle.rules.specs.Map.{Yard}
 use Rattle.rules.specs.Rows.{Key}
-use Rattle.rules.specs.Answer.{PageSays, PageSound, PageDone, CursorFits, records}
+use Rattle.rules.specs.Bytes.{records}
+use Rattle.rules.specs.Answer.{number, PageRefused, PageSound, PageDone, CursorFits}
+
+-- refused at the gate
+pub page-refused : {was out : List ℕ} {x : Refusal} → was ≡ out → (n : ℕ) → number x ≡ n → PageRefused n was out (Refused x)
+page-refused e n h = record { code = h; counts = refl; says = refl; hands = refl; holds = sym e }
 
 -- ---- where map and book are sound
 
@@ -29,12 +35,3 @@ module _ (rows : List Row) {Y : Yard} {size : ℕ} {k : Key} {was out : List ℕ
 
       pub page-shown : {s : Shown} → size ≤ records was → PageDone rows size k was out (Done s) → PageSound Y rows size k was out (Done s)
       page-shown h d = inr ((from, to), inr (fits, inr (h, d)))
-
--- ---- with the map and the book tested first
-
-module _ (rows : List Row) {map-ok book-ok : Type 0} {Y : Yard} {size : ℕ} {k : Key} {was out : List ℕ} where
-  pub page-bad-map : (map-ok → ⊥) → was ≡ out → PageSays map-ok book-ok Y rows size k was out (Refused BadMap)
-  page-bad-map h e = inl (h, record { code = refl; counts = refl; says = refl; hands = refl; holds = sym e })
-
-  pub page-bad-book : map-ok → (book-ok → ⊥) → was ≡ out → PageSays map-ok book-ok Y rows size k was out (Refused BadBook)
-  page-bad-book m h e = inr (m, inl (h, record { code = refl; counts = refl; says = refl; hands = refl; holds = sym e }))

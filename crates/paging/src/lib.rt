@@ -4,13 +4,14 @@ use rules::Cursor;
 use rules::Map;
 use rules::Paged;
 use rules::Refusal;
+use rules::Row;
+use vet::Verdict;
 ghost use mathlib.Core.Path.{_≡_};
 ghost use Prim.Native.Nat.{_≤_};
-ghost use Rattle.rules.specs.Map.{Yard, MapRules};
+ghost use Rattle.rules.specs.Map.{Yard};
 ghost use Rattle.rules.specs.Rows.{cursorKey};
-ghost use Rattle.rules.specs.Book.{WellFormed};
 ghost use Rattle.rules.specs.Answer.{PageSound, PageSays, PageIs};
-ghost use Rattle.flat.specs.Flat.{placesIn, linksIn, rowsIn, yardIn, Packed, KeysRise};
+ghost use Rattle.flat.specs.Flat.{rowsIn, papersIn, Packed, KeysRise};
 
 // A page where map and book are sound, on a map of n places: 10, 11, 6, or the rows after the cursor.
 fn page_sound(
@@ -40,11 +41,11 @@ fn page_sound(
     if c.entry > Map::DAY {
         return Paged::Refused(Refusal::BadCursor);
     }
-    if c.ticket >= 1000000 {
+    if c.ticket >= Book::TICKETS {
         return Paged::Refused(Refusal::BadCursor);
     }
     let asked = size as usize;
-    if out.len() / 11 < asked {
+    if out.len() / Row::BYTES < asked {
         return Paged::Refused(Refusal::ShortList);
     }
     let s = pages::page_of(count, key, tail, size, c, out);
@@ -68,7 +69,7 @@ pub fn page_flat(
     out: &mut [u8],
 ) -> Paged
     requires { ⌜ Packed (now key) ⌝ }
-    ensures { λ r. ⌜ PageSays (MapRules (placesIn (now (cap .entry)) (now (dur .entry)) n) (linksIn (now (from .entry)) (now (to .entry)) k)) (WellFormed (yardIn (now (cap .entry)) (now (dur .entry)) n (now (from .entry)) (now (to .entry)) k) (rowsIn (now (key .entry)) (now (tail .entry)) count) «next_ticket») (yardIn (now (cap .entry)) (now (dur .entry)) n (now (from .entry)) (now (to .entry)) k) (rowsIn (now (key .entry)) (now (tail .entry)) count) size (cursorKey c) (now (out .entry)) (now (out .exit)) r ⌝ }
+    ensures { λ r. ⌜ PageSays (papersIn (now (cap .entry)) (now (dur .entry)) (now (from .entry)) (now (to .entry)) n k (now (key .entry)) (now (tail .entry)) count «next_ticket») size (cursorKey c) (now (out .entry)) (now (out .exit)) r ⌝ }
 {
     let mut head = [0u16; 256];
     let mut chain = [0u16; 1024];
@@ -76,7 +77,7 @@ pub fn page_flat(
     let mut start = [0u32; 1280];
     let mut end = [0u32; 1280];
     let mut first = [0u16; 257];
-    let m = vet::vet(
+    let found = vet::vet(
         n,
         k,
         cap,
@@ -94,13 +95,11 @@ pub fn page_flat(
         &mut place,
         &mut first,
     );
-    if m >= 1282 {
-        return Paged::Refused(Refusal::BadMap);
+    let v = vet::judged(found);
+    match v {
+        Verdict::Refused(r) => Paged::Refused(r),
+        Verdict::Sound(_) => page_sound(n, count, key, tail, size, c, out),
     }
-    if m >= 1281 {
-        return Paged::Refused(Refusal::BadBook);
-    }
-    page_sound(n, count, key, tail, size, c, out)
 }
 
 // The rows of the book after a cursor: they are written to the caller's list.

@@ -10,6 +10,7 @@ use borrow.Author.Tests.{eqb-true, eq-eqb}
 use Rattle.laws.specs.Order.{lt-or-ge, eq-or-ne}
 use Rattle.laws.specs.Lists.{at}
 use Rattle.rules.specs.declared.Row.{Row}
+use Rattle.rules.specs.Limits.{day}
 use Rattle.rules.specs.Map.{Yard}
 use Rattle.rules.specs.Rows.{load}
 use Rattle.rules.specs.Plan.{Stay, Permitted}
@@ -98,10 +99,10 @@ module _
 
     -- then no window is entered, and every label is the mark
     pub entries-unbegun : {src : ℕ} → BeginsAt S E (at I start) (at I (start + 1)) s (at D start) src → src ≡ 1280 → {label : ℕ → ℕ} → ((v : ℕ) → v < 1280 → label v ≡ 86401)
-        → Entries Y rows start s m win label 86400
+        → Entries Y rows start s m win label day
     entries-unbegun B e far = none-enters Y rows start s m win (λ i h. omega (arith, far i (omega (arith, L .few)))) (λ i t h n. none-goes B e ((win i) .place) (n .plan) (n .permitted))
 
-    module _ {src : ℕ} (s-in : s ≤ 86400) (B : BeginsAt S E (at I start) (at I (start + 1)) s (at D start) src) (b : src < 1280) where
+    module _ {src : ℕ} (s-in : s ≤ day) (B : BeginsAt S E (at I start) (at I (start + 1)) s (at D start) src) (b : src < 1280) where
       pub src-in : src < m
       src-in = omega (arith, B .to b, L .by-place .ends, ends-le)
         where
@@ -136,7 +137,7 @@ module _
         entries-found h = known-entries Y rows start s m win W rules booked src src-in src-enter src-place (A .known h)
 
         -- .. or of the whole day, where it found none
-        pub entries-none : r ≡ 1280 → Entries Y rows start s m win (at lab) 86400
+        pub entries-none : r ≡ 1280 → Entries Y rows start s m win (at lab) day
         entries-none e = known-entries Y rows start s m win W rules booked src src-in src-enter src-place (A .known-all e)
 
         module _ (h : r < 1280) where

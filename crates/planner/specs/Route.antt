@@ -10,11 +10,12 @@ use native.Mathlib.Numerals.{add-one}
 use Rattle.laws.specs.Order.{lt-or-ge}
 use Rattle.laws.specs.Lists.{at}
 use Rattle.rules.specs.declared.Row.{Row}
+use Rattle.rules.specs.Limits.{day, durationLimit, planLimit}
 use Rattle.rules.specs.Map.{Yard}
-use Rattle.rules.specs.Plan.{Stay, Permitted, runRows, arrival}
+use Rattle.rules.specs.Plan.{Stay, Permitted, stayRow, runRows, arrival}
 use Rattle.rules.specs.Window.{Enters, Earliest, Entries}
 use Rattle.rules.specs.Chosen.{Chosen}
-use Rattle.rules.specs.Answer.{written}
+use Rattle.rules.specs.Bytes.{written}
 use Rattle.wire.specs.Written.{PutAt, written-next}
 use Rattle.rules.specs.Rows.{load, rowAt, noRow}
 use Rattle.lanes.specs.Entries.{entry-or-mark}
@@ -24,16 +25,16 @@ use Rattle.search.specs.Offers.{BeginsAt, Row1}
 use Rattle.search.specs.Relax.{nextBy}
 use Rattle.search.specs.Lanes.{Lanes, atDest}
 use Rattle.search.specs.Trail.{Trailed, trailed-fits, trailed-last}
-use Rattle.planner.specs.Choice.{planOf, OnDay, found-chosen, found-good, entries-found}
+use Rattle.planner.specs.Choice.{stayOf, planOf, OnDay, found-chosen, found-good, entries-found}
 
 -- r windows of path are the chosen plan; 0 where no plan is permitted. The labels of all windows are their earliest entries, up to the entry into
 -- the plan's last window; where no plan is permitted, of the whole day.
 pub record Routed (Y : Yard) (rows : List Row) (start dest s m : ℕ) (D P S E lab path : List ℕ) (r : ℕ) : Type 0 where
-  pub few : r ≤ 1280
+  pub few : r ≤ planLimit
   pub none : r ≡ 0 → (plan : List Stay) → Permitted Y rows start dest s plan → ⊥
   pub chosen : 0 < r → Chosen Y rows start dest s (planOf D P lab (take r path))
   pub entries : (i : ℕ) → suc i ≡ r → Entries Y rows start s m (spanAt P S E) (at lab) (at lab (at path i))
-  pub all-entries : r ≡ 0 → Entries Y rows start s m (spanAt P S E) (at lab) 86400
+  pub all-entries : r ≡ 0 → Entries Y rows start s m (spanAt P S E) (at lab) day
   pub marked : (v : ℕ) → v < m → at lab v ≤ 86401
   pub on-day : OnDay m lab (take r path)
   pub long : length path ≡ 1280
@@ -45,7 +46,7 @@ pub row-as : {S E : List ℕ} {a b a′ b′ d : ℕ} → a ≡ a′ → b ≡ b
 row-as {S} {E} {d = d} e f R = subst₂ (λ x y. Row1 S E x y d) e f R
 
 pub routed-none : {Y : Yard} {rows : List Row} {start dest s m : ℕ} {D P S E lab path : List ℕ} → ((plan : List Stay) → Permitted Y rows start dest s plan → ⊥)
-    → Entries Y rows start s m (spanAt P S E) (at lab) 86400 → ((v : ℕ) → v < m → at lab v ≤ 86401) → length path ≡ 1280
+    → Entries Y rows start s m (spanAt P S E) (at lab) day → ((v : ℕ) → v < m → at lab v ≤ 86401) → length path ≡ 1280
     → Routed Y rows start dest s m D P S E lab path 0
 routed-none f t k l = record {
   few = omega arith;
@@ -60,7 +61,7 @@ routed-none f t k l = record {
 
 pub routed-found : {C D F T H N : List ℕ} {n k : ℕ} {rows : List Row} {c : ℕ} {P S E I : List ℕ} {m : ℕ} (L : Lanes C D F T H N n k rows c P S E I m)
     → ((p t : ℕ) → p < yardIn C D n F T k .places → load rows p t ≤ yardIn C D n F T k .cap p)
-    → (start dest s : ℕ) → start < n → dest < n → {src : ℕ} → s ≤ 86400 → BeginsAt S E (at I start) (at I (start + 1)) s (at D start) src → src < 1280
+    → (start dest s : ℕ) → start < n → dest < n → {src : ℕ} → s ≤ day → BeginsAt S E (at I start) (at I (start + 1)) s (at D start) src → src < 1280
     → {lab bef : List ℕ} {g : ℕ} → Answer m (nextBy (yardIn C D n F T k) rows P S E) (atDest P dest) src s lab bef g → g < 1280
     → {path : List ℕ} {r : ℕ} → Trailed lab bef g r path → Routed (yardIn C D n F T k) rows start dest s m D P S E lab path r
 routed-found {C} {D} {F} {T} {n = n} {k = k} {rows = rows} {P = P} {S = S} {E = E} {m = m} L booked start dest s a b sh B h {lab = lab} A gh T′ = record {
@@ -101,10 +102,10 @@ module _ (D P lab : List ℕ) where
   run-long t (w ∷ (v ∷ (u ∷ path))) = ap suc (run-long t (v ∷ (u ∷ path)))
 
   abbrev pub goesRow : ℕ → ℕ → ℕ → Row
-  goesRow t w v = record { place = at P w; entry = at lab w; ticket = t; exit = at lab v; next = at P v }
+  goesRow t w v = stayRow t (stayOf P lab w (at lab v)) (at P v)
 
   abbrev pub lastRow : ℕ → ℕ → Row
-  lastRow t w = record { place = at P w; entry = at lab w; ticket = t; exit = at lab w + at D (at P w); next = at P w }
+  lastRow t w = stayRow t (stayOf P lab w (at lab w + at D (at P w))) (at P w)
 
   pub row-goes : (t : ℕ) (path : List ℕ) (k : ℕ) → suc k < length path → rowAt (runRows t (planOf D P lab path)) k ≡ goesRow t (at path k) (at path (suc k))
   row-goes t [] k h = absurd (omega arith)
@@ -136,11 +137,11 @@ module _ (D P lab : List ℕ) where
 
 -- the row at k of the first count windows of a path
 pub record PathFits (D P lab path : List ℕ) (count : ℕ) : Type 0 where
-  pub few : count ≤ 1280
+  pub few : count ≤ planLimit
   pub long : length path ≡ 1280
   pub window : (i : ℕ) → i < count → at path i < 1280
-  pub label : (i : ℕ) → i < count → at lab (at path i) ≤ 86400
-  pub dur : (i : ℕ) → i < count → at D (at P (at path i)) ≤ 3600
+  pub label : (i : ℕ) → i < count → at lab (at path i) ≤ day
+  pub dur : (i : ℕ) → i < count → at D (at P (at path i)) ≤ durationLimit
 
 module _ (D P lab path : List ℕ) (count k t : ℕ) (F : PathFits D P lab path count) (h : k < count) where
   long-take : length (take count path) ≡ count

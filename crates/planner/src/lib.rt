@@ -1,12 +1,14 @@
 // The earliest permitted plan beside a book, over lent arrays.
 use rules::Row;
+use rules::Trip;
 ghost use mathlib.Core.Path.{_≡_};
 ghost use Prim.Native.Nat.{ℕ, _+_, _*_, _≤_, _<_};
 ghost use lib.ListN.{length, take};
 ghost use Rattle.laws.specs.Lists.{at};
+ghost use Rattle.rules.specs.Limits.{day};
 ghost use Rattle.rules.specs.Rows.{rowAt, load};
 ghost use Rattle.rules.specs.Plan.{runRows};
-ghost use Rattle.rules.specs.Answer.{written};
+ghost use Rattle.rules.specs.Bytes.{rowSize, written};
 ghost use Rattle.flat.specs.Flat.{rowsIn, yardIn};
 ghost use Rattle.search.specs.Lanes.{Lanes};
 ghost use Rattle.planner.specs.Choice.{planOf};
@@ -45,23 +47,10 @@ pub fn step_at(
         let v = broad(path[k + 1]);
         let x = label[v];
         let q = place[v];
-        return Row {
-            place: p,
-            entry: e,
-            ticket: ticket,
-            exit: x,
-            next: q,
-        };
+        return Row::new(p, e, ticket, x, q);
     }
     let d = dur[wide(p)];
-    let x = e + d;
-    Row {
-        place: p,
-        entry: e,
-        ticket: ticket,
-        exit: x,
-        next: p,
-    }
+    Row::new(p, e, ticket, e + d, p)
 }
 
 // The chosen plan from `origin` to `dest` at s as windows of path, in travel order: how many, 0 where no plan is permitted; and each window's
@@ -91,7 +80,7 @@ pub fn route(
 ) -> usize
     requires { ⌜ Lanes (now cap) (now dur) (now from) (now to) (now head) (now chain) places links (rowsIn (now key) (now tail) n) n (now place) (now start) (now end) (now first) windows ⌝ }
     requires { ⌜ ((p t : ℕ) → p < yardIn (now cap) (now dur) places (now from) (now to) links .places → load (rowsIn (now key) (now tail) n) p t ≤ yardIn (now cap) (now dur) places (now from) (now to) links .cap p) ⌝ }
-    requires { ⌜ (origin < places) × (dest < places) × (s ≤ 86400) ⌝ }
+    requires { ⌜ (origin < places) × (dest < places) × (s ≤ day) ⌝ }
     requires { ⌜ ((v : ℕ) → v < 1280 → at (now label) v ≡ 86401) ⌝ }
     requires { ⌜ (length (now label) ≡ 1280) × (length (now path) ≡ 1280) ⌝ }
     ensures { λ r. ⌜ Routed (yardIn (now (cap .entry)) (now (dur .entry)) places (now (from .entry)) (now (to .entry)) links) (rowsIn (now (key .entry)) (now (tail .entry)) n) origin dest s windows (now (dur .entry)) (now (place .entry)) (now (start .entry)) (now (end .entry)) (now (label .exit)) (now (path .exit)) r ⌝ }
@@ -100,7 +89,7 @@ pub fn route(
     let b = broad(first[origin + 1]);
     let d = dur[origin];
     let src = search::begin_at(start, end, a, b, s, d);
-    if src >= 1280 {
+    if src >= Trip::STAYS {
         return 0;
     }
     let mut before = [0u16; 1280];
@@ -127,7 +116,7 @@ pub fn route(
         label,
         &mut before,
     );
-    if g >= 1280 {
+    if g >= Trip::STAYS {
         return 0;
     }
     search::trail(&before, label, g, path)
@@ -143,7 +132,7 @@ pub fn write_plan(
     out: &mut [u8],
 )
     requires { ⌜ PathFits (now dur) (now place) (now label) (now path) count ⌝ }
-    requires { ⌜ 11 * count ≤ length (now out) ⌝ }
+    requires { ⌜ rowSize * count ≤ length (now out) ⌝ }
     ensures { λ _. ⌜ now (out .exit) ≡ written (runRows 0 (planOf (now (dur .entry)) (now (place .entry)) (now (label .entry)) (take count (now (path .entry))))) (now (out .entry)) ⌝ }
 {
     let mut j: usize = 0;

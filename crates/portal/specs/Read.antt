@@ -14,12 +14,15 @@ use Rattle.rules.specs.Map.{Yard, yardOf, MapRules}
 use Rattle.rules.specs.Rows.{Key, bit}
 use Rattle.rules.specs.Book.{WellFormed}
 use Rattle.rules.specs.Answer.{PlanSays, PageSays, plannedNumber, plannedArrival, plannedCount, pagedNumber, pagedCount, pagedMore}
-use Rattle.rules.specs.Portal.{num2, slicePlaces, sliceLinks, sliceYard, MapSlice, sliceRows, sliceTicket, BookSlice, oneNumber, PortalPlan, PortalPage}
-use Rattle.flat.specs.Flat.{placesIn, linksIn, yardIn, rowsIn, Packed}
+use Rattle.rules.specs.Bytes.{num2, placeSize}
+use Rattle.rules.specs.Gate.{Papers}
+use Rattle.rules.specs.GateLaws.{SamePapers}
+use Rattle.rules.specs.Portal.{slicePlaces, sliceLinks, sliceYard, MapSlice, sliceRows, sliceTicket, BookSlice, slicePapers, oneNumber, PortalPlan, PortalPage}
+use Rattle.flat.specs.Flat.{placesIn, linksIn, yardIn, rowsIn, papersIn, Packed}
 use Rattle.flat.specs.Laws.{places-long, rows-long}
 use Rattle.wire.specs.Reading.{PlacesOf, LinksOf, RowsOf}
 use Rattle.wire.specs.Slices.{MapShape, BookShape, map-shape, book-shape, slice-places, slice-links, slice-rows}
-use Rattle.desk.specs.Transfer.{plan-carry, page-carry}
+use Rattle.desk.specs.Transfer.{plan-as, page-as}
 
 -- ---- the map
 
@@ -43,7 +46,7 @@ map-misread {b} {s} C D F T t f = record {
     no-two : b ≡ true → ⊥
     no-two e = let z : _≡_ {A = ℕ} 0 1 = cc in omega arith
 
-pub map-read : {s C D F T : List ℕ} {n base k : ℕ} → MapShape s → PlacesOf s n C D → LinksOf s base k F T → n ≡ num2 s 0 → base ≡ 4 + 3 * n → k ≡ num2 s 2
+pub map-read : {s C D F T : List ℕ} {n base k : ℕ} → MapShape s → PlacesOf s n C D → LinksOf s base k F T → n ≡ num2 s 0 → base ≡ 4 + placeSize * n → k ≡ num2 s 2
     → MapRead s C D F T n k
 map-read S P L a b c = record {
   read = true;
@@ -122,25 +125,23 @@ module _ {s K X : List ℕ} {count ticket : ℕ} (R : BookRead s K X count ticke
 -- ---- what is said of the arrays is said of the slices
 
 module _ {map book C D F T K X : List ℕ} {n k count ticket : ℕ} (M : MapRead map C D F T n k) (B : BookRead book K X count ticket) where
-  abbrev yard : Yard
-  yard = yardIn C D n F T k
+  abbrev arrays : Papers
+  arrays = papersIn C D F T n k K X count ticket
 
-  abbrev map-ok : Type 0
-  map-ok = MapRules (placesIn C D n) (linksIn F T k)
+  read : SamePapers arrays (slicePapers map book)
+  read = record {
+    map-to = map-to M;
+    map-of = map-of M;
+    book-to = λ R W. subst (λ (z : Yard). BookSlice z book) (map-yard M R) (book-to B W);
+    book-of = λ R S. book-of B (subst (λ (z : Yard). BookSlice z book) (sym (map-yard M R)) S);
+    yard = map-yard M;
+    rows = λ R W. book-rows B W;
+  }
 
-  abbrev book-ok : Type 0
-  book-ok = WellFormed yard (rowsIn K X count) ticket
-
-  to-book : map-ok → book-ok → BookSlice (sliceYard map) book
-  to-book R W = subst (λ (z : Yard). BookSlice z book) (map-yard M R) (book-to B W)
-
-  of-book : map-ok → BookSlice (sliceYard map) book → book-ok
-  of-book R S = book-of B (subst (λ (z : Yard). BookSlice z book) (sym (map-yard M R)) S)
-
-  pub portal-plan : {start dest s : ℕ} {was out : List ℕ} {p : Planned} {r : ℕ} → PlanSays map-ok book-ok yard (rowsIn K X count) start dest s was out p
+  pub portal-plan : {start dest s : ℕ} {was out : List ℕ} {p : Planned} {r : ℕ} → PlanSays arrays start dest s was out p
       → r ≡ oneNumber (plannedNumber p) (plannedArrival p) (plannedCount p) → PortalPlan map book start dest s was out r
-  portal-plan {p = p} x e = record { answer = p; says = plan-carry (map-to M) (map-of M) to-book of-book (λ R W. (map-yard M R, book-rows B W)) x; result = e }
+  portal-plan {p = p} x e = record { answer = p; says = plan-as read x; result = e }
 
-  pub portal-page : {size : ℕ} {c : Key} {was out : List ℕ} {p : Paged} {r : ℕ} → PageSays map-ok book-ok yard (rowsIn K X count) size c was out p
+  pub portal-page : {size : ℕ} {c : Key} {was out : List ℕ} {p : Paged} {r : ℕ} → PageSays arrays size c was out p
       → r ≡ oneNumber (pagedNumber p) (bit (pagedMore p)) (pagedCount p) → PortalPage map book size c was out r
-  portal-page {p = p} x e = record { answer = p; says = page-carry (map-to M) (map-of M) to-book of-book (λ R W. (map-yard M R, book-rows B W)) x; result = e }
+  portal-page {p = p} x e = record { answer = p; says = page-as read x; result = e }

@@ -1,11 +1,14 @@
 // The advisers' portal: map, book and answers as byte slices, for C or Rust to call.
+use rules::Book;
 use rules::Cursor;
 use rules::Paged;
+use rules::Place;
 use rules::Planned;
 ghost use mathlib.Core.Path.{_≡_};
 ghost use Prim.Native.Nat.{ℕ, _≤_};
 ghost use lib.ListN.{length};
 ghost use Rattle.laws.specs.Lists.{at};
+ghost use Rattle.rules.specs.Limits.{pageLimit};
 ghost use Rattle.rules.specs.Rows.{bit};
 ghost use Rattle.rules.specs.Answer.{plannedNumber, plannedArrival, plannedCount, pagedNumber, pagedCount, pagedMore};
 ghost use Rattle.rules.specs.Portal.{oneNumber, PortalPlan, PortalPage};
@@ -46,7 +49,7 @@ fn read_map(
     let n = wire::two(s, 0) as usize;
     let k = wire::two(s, 2) as usize;
     wire::read_places(s, n, cap, dur);
-    wire::read_links(s, 4 + 3 * n, k, from, to);
+    wire::read_links(s, 4 + Place::BYTES * n, k, from, to);
     MapHead {
         places: n,
         links: k,
@@ -62,7 +65,7 @@ fn read_book(s: &[u8], key: &mut [u64; 1024], tail: &mut [u32; 1024]) -> BookHea
 {
     if !wire::book_shape(s) {
         return BookHead {
-            count: 1025,
+            count: Book::UNREAD,
             ticket: 0,
         };
     }
@@ -88,7 +91,7 @@ fn packed_plan(p: Planned) -> u64
 
 // A page's answer as one number.
 fn packed_page(p: Paged) -> u64
-    requires { ⌜ pagedCount p ≤ 64 ⌝ }
+    requires { ⌜ pagedCount p ≤ pageLimit ⌝ }
     ensures { λ r. ⌜ r ≡ oneNumber (pagedNumber p) (bit (pagedMore p)) (pagedCount p) ⌝ }
 {
     match p {

@@ -16,49 +16,53 @@ use Rattle.rules.specs.declared.Map.{Map}
 use Rattle.rules.specs.declared.Book.{Book}
 use Rattle.rules.specs.declared.Planned.{Planned}
 use Rattle.rules.specs.declared.Paged.{Paged}
+use Rattle.rules.specs.Limits.{planLimit, pageLimit}
 use Rattle.rules.specs.Map.{GoodMap, mapYard}
 use Rattle.rules.specs.Rows.{Key, rowKey, noRow, rowAt, lessb}
 use Rattle.rules.specs.Page.{after, pageRows, pageMore, lastKey}
 use Rattle.rules.specs.Plan.{Stay, stayAt, Permitted, runRows, arrival}
 use Rattle.rules.specs.Book.{GoodBook, rowsOf}
 use Rattle.rules.specs.Chosen.{Chosen}
-use Rattle.rules.specs.Answer.{Unless, Planning, PlanIs, PlanRecords, PlanRefused, PlanDone, plannedCount, PagingIs, PageIs, PageRecords, PageRefused, PageDone, pagedCount, records}
+use Rattle.rules.specs.Bytes.{rowSize, records, listSize}
+use Rattle.rules.specs.ByteLaws.{RowFits}
+use Rattle.rules.specs.Gate.{Unless, papersOf}
+use Rattle.rules.specs.GateLaws.{unless, instead, checked, checked-as, same-papers}
+use Rattle.rules.specs.Answer.{Planning, PlanIs, PlanRecords, PlanRefused, PlanDone, plannedCount, PagingIs, PageIs, PageRecords, PageRefused, PageDone, pagedCount, over}
 use Rattle.lanes.specs.Yards.{YardRules, yard-rules}
 use Rattle.lanes.specs.Windows.{ends}
 use Rattle.lanes.specs.Chosen.{chosen-best}
 use Rattle.keeping.specs.Runs.{run-length}
 use Rattle.keeping.specs.Changes.{mem-keep}
-use Rattle.keeping.specs.Keeping.{row-ranges}
-use Rattle.keeping.specs.Calls.{unless}
+use Rattle.keeping.specs.Keeping.{row-fits}
 use Rattle.records.specs.declared.FoundPlan.{FoundPlan}
 use Rattle.records.specs.declared.FoundPage.{FoundPage}
 use Rattle.records.specs.Few.{chosen-few}
-use Rattle.records.specs.Reading.{RowsRead, RowFits, read-all, StayFits, run-fits}
+use Rattle.records.specs.Reading.{RowsRead, read-all, StayFits, run-fits}
 
 -- the length of the list of packed rows that is lent for so much room
 pub record Lent (room n : ℕ) : Type 0 where
-  pub small : room < 1280 → n ≡ 11 * room
-  pub large : 1280 ≤ room → n ≡ 14080
+  pub small : room < planLimit → n ≡ rowSize * room
+  pub large : planLimit ≤ room → n ≡ listSize
 
-pub lent-fits : {room n : ℕ} → Lent room n → n ≤ 14080
-lent-fits {room} {n} L = ⊎-elim (λ (c : room < 1280). omega (arith, L .small c)) (λ (c : 1280 ≤ room). omega (arith, L .large c)) (lt-or-ge room 1280)
+pub lent-fits : {room n : ℕ} → Lent room n → n ≤ listSize
+lent-fits {room} {n} L = ⊎-elim (λ (c : room < planLimit). omega (arith, L .small c)) (λ (c : planLimit ≤ room). omega (arith, L .large c)) (lt-or-ge room planLimit)
 
 -- the records of such a list are the room, but no more than 1,280
-lent-few : {room n : ℕ} → Lent room n → n / 11 ≤ 1280
+lent-few : {room n : ℕ} → Lent room n → n / rowSize ≤ planLimit
 lent-few {room} {n} L = omega (arith, lent-fits L)
 
-lent-room : {room n : ℕ} → Lent room n → n / 11 ≤ room
-lent-room {room} {n} L = ⊎-elim (λ (c : room < 1280). omega (arith, L .small c)) (λ (c : 1280 ≤ room). omega (arith, L .large c)) (lt-or-ge room 1280)
+lent-room : {room n : ℕ} → Lent room n → n / rowSize ≤ room
+lent-room {room} {n} L = ⊎-elim (λ (c : room < planLimit). omega (arith, L .small c)) (λ (c : planLimit ≤ room). omega (arith, L .large c)) (lt-or-ge room planLimit)
 
-lent-enough : {room n : ℕ} (k : ℕ) → Lent room n → k ≤ 1280 → k ≤ room → k ≤ n / 11
-lent-enough {room} {n} k L h g = ⊎-elim (λ (c : room < 1280). omega (arith, L .small c)) (λ (c : 1280 ≤ room). omega (arith, L .large c)) (lt-or-ge room 1280)
+lent-enough : {room n : ℕ} (k : ℕ) → Lent room n → k ≤ planLimit → k ≤ room → k ≤ n / rowSize
+lent-enough {room} {n} k L h g = ⊎-elim (λ (c : room < planLimit). omega (arith, L .small c)) (λ (c : planLimit ≤ room). omega (arith, L .large c)) (lt-or-ge room planLimit)
 
 -- such a list is the front of one of 1,280 records, which is as long as it was once the front has been written
-module _ {room n : ℕ} (L : Lent room n) (z : List ℕ) (l : length z ≡ 14080) where
+module _ {room n : ℕ} (L : Lent room n) (z : List ℕ) (l : length z ≡ listSize) where
   pub lent-length : n ≡ length (take n z)
   lent-length = sym (length-take-le n z (omega (arith, lent-fits L)))
 
-  pub lent-back : (p : List ℕ) → length p ≡ length (take n z) → 14080 ≡ length (p ++ drop n z)
+  pub lent-back : (p : List ℕ) → length p ≡ length (take n z) → listSize ≡ length (p ++ drop n z)
   lent-back p e = omega (arith, lent-fits L, lent-length, length-append p (drop n z), length-drop n z)
 
   lent-front : Lent room (length (take n z))
@@ -71,27 +75,22 @@ put n rows was = take n rows ++ drop n was
 put-none : {n : ℕ} (rows was : List Row) → n ≡ 0 → put n rows was ≡ was
 put-none rows was e = rw e
 
-put-all : {n : ℕ} (got rows was : List Row) → n ≡ length rows → take n got ≡ rows → put n got was ≡ rows ++ drop (length rows) was
+put-all : {n : ℕ} (got rows was : List Row) → n ≡ length rows → take n got ≡ rows → put n got was ≡ over was rows
 put-all {n} got rows was e f = ap (λ (l : List Row). l ++ drop n was) f ∙ ap (λ (k : ℕ). rows ++ drop k was) e
-
--- one answer for another, in the order of the refusals
-instead : {ok bad bad′ rest rest′ : Type 0} → (bad → bad′) → (ok → rest → rest′) → Unless ok bad rest → Unless ok bad′ rest′
-instead f g (inl x) = inl (x .0, f (x .1))
-instead f g (inr y) = inr (y .0, g (y .0) (y .1))
 
 -- ---- plan
 
 -- what is found for a plan: over any list with this room it is the answer of the call on records
 pub record PlanFound (m : Map) (b : Book) (start dest s room : ℕ) (f : FoundPlan) : Type 0 where
-  pub few : f .count ≤ 1280
+  pub few : f .count ≤ planLimit
   pub fits : f .count ≤ room
   pub says : (was : List Row) → length was ≡ room → PlanRecords m b start dest s was (put (f .count) (f .rows) was) (f .answer)
 
 -- no more rows are counted than the list has records
 pub plan-within : {m : Map} {b : Book} {start dest s : ℕ} {lent out : List ℕ} {a : Planned} → PlanIs m b start dest s lent out a → plannedCount a ≤ records lent
 plan-within {m} {b} {start} {dest} {s} {lent} {out} {a} h =
-    unless refused (λ M. unless refused (λ G. unless refused (λ on. unless refused (λ d. unless refused (λ some x.
-    unless refused (λ k D. omega (arith, D .counts)) (x .2)))))) h
+    checked (λ n _. refused) (λ M G. unless refused (λ on. unless refused (λ d. unless refused (λ some x.
+    unless refused (λ k D. omega (arith, D .counts)) (x .2))))) h
   where
     refused : {n : ℕ} → PlanRefused n lent out a → plannedCount a ≤ records lent
     refused x = omega (arith, x .counts)
@@ -115,7 +114,7 @@ module _ {m : Map} {b : Book} {start dest s room : ℕ} {lent out : List ℕ} (r
       rules = yard-rules (M .rules)
 
       abbrev Done : Type 0
-      Done = Planning 0 (arrival plan) (length plan) (runRows 0 plan ++ drop (length (runRows 0 plan)) was) (put n rows was) a
+      Done = Planning 0 (arrival plan) (length plan) (over was (runRows 0 plan)) (put n rows was) a
 
       done : length plan ≤ records lent → PlanDone plan lent out a → Done
       done k D =
@@ -134,8 +133,8 @@ module _ {m : Map} {b : Book} {start dest s room : ℕ} {lent out : List ℕ} (r
 
     plan-says : PlanRecords m b start dest s was (put n rows was) a
     plan-says =
-        instead refused (λ M. instead refused (λ G. instead refused (λ on. instead refused (λ d. instead refused (λ some x.
-        (x .0, x .1, listed M G (on .1) (x .1) (x .2))))))) h
+        checked-as (same-papers (papersOf m b)) (λ k _. refused) (λ M G. instead refused (λ on. instead refused (λ d. instead refused (λ some x.
+        (x .0, x .1, listed M G (on .1) (x .1) (x .2)))))) h
 
   pub plan-found : PlanFound m b start dest s room (record { rows = rows; count = n; answer = a })
   plan-found = record {
@@ -145,9 +144,9 @@ module _ {m : Map} {b : Book} {start dest s room : ℕ} {lent out : List ℕ} (r
   }
 
 -- the plan written to the front of a list of 1,280 records
-module _ {m : Map} {b : Book} {start dest s room n : ℕ} (L : Lent room n) (z : List ℕ) (l : length z ≡ 14080) {p : List ℕ} {a : Planned} {k : ℕ}
+module _ {m : Map} {b : Book} {start dest s room n : ℕ} (L : Lent room n) (z : List ℕ) (l : length z ≡ listSize) {p : List ℕ} {a : Planned} {k : ℕ}
     (h : PlanIs m b start dest s (take n z) p a) (e : k ≡ plannedCount a) where
-  pub plan-readable : length p ≡ length (take n z) → (k ≤ 1280) × (11 * k ≤ length (p ++ drop n z))
+  pub plan-readable : length p ≡ length (take n z) → (k ≤ planLimit) × (rowSize * k ≤ length (p ++ drop n z))
   plan-readable q =
       let w = plan-within h in
       let f = lent-few (lent-front L z l) in
@@ -160,7 +159,7 @@ module _ {m : Map} {b : Book} {start dest s room n : ℕ} (L : Lent room n) (z :
 
 -- what is found for a page: over any list with this room it is the answer of the call on records
 pub record PageFound (m : Map) (b : Book) (size : ℕ) (k : Key) (room : ℕ) (f : FoundPage) : Type 0 where
-  pub few : f .count ≤ 1280
+  pub few : f .count ≤ planLimit
   pub fits : f .count ≤ room
   pub says : (was : List Row) → length was ≡ room → PageRecords m b size k was (put (f .count) (f .rows) was) (f .answer)
 
@@ -170,8 +169,8 @@ page-few size k rows = omega (arith, length-take size (after k rows), min-le-lef
 -- no more rows are counted than the list has records
 pub page-within : {m : Map} {b : Book} {size : ℕ} {k : Key} {lent out : List ℕ} {a : Paged} → PageIs m b size k lent out a → pagedCount a ≤ records lent
 page-within {m} {b} {size} {k} {lent} {out} {a} h =
-    unless refused (λ M. unless refused (λ G. unless refused (λ s. unless refused (λ c. unless refused (λ r D.
-    omega (arith, D .counts, page-few size k (rowsOf b))))))) h
+    checked (λ n _. refused) (λ M G. unless refused (λ s. unless refused (λ c. unless refused (λ r D.
+    omega (arith, D .counts, page-few size k (rowsOf b)))))) h
   where
     refused : {n : ℕ} → PageRefused n lent out a → pagedCount a ≤ records lent
     refused x = omega (arith, x .counts)
@@ -182,14 +181,7 @@ page-fits {m} {b} size k M G j h =
     let page : List Row = pageRows size k (rowsOf b) in
     let r : Row = rowAt page j in
     let n : List·Memᴰ r (after k (rowsOf b)) = rw (take-append-drop size (after k (rowsOf b))) at (Memᴰ·append-left (drop size (after k (rowsOf b))) (index-mem noRow page j h)) in
-    let R = row-ranges (G .formed) r ((mem-keep (λ x. lessb k (rowKey x)) r (rowsOf b) n) .0) in
-    record {
-      place = omega (arith, R .place, M .rules .few);
-      entry = omega (arith, R .entry);
-      ticket = omega (arith, R .ticket-to, G .formed .ticket-to);
-      exit = omega (arith, R .exit);
-      next = omega (arith, R .next, M .rules .few);
-    }
+    row-fits (M .rules .few) (G .formed) r ((mem-keep (λ x. lessb k (rowKey x)) r (rowsOf b) n) .0)
 
 module _ {m : Map} {b : Book} {size room : ℕ} {k : Key} {lent out : List ℕ} (rest : List ℕ) {a : Paged} {n : ℕ} {rows : List Row} (L : Lent room (length lent))
     (h : PageIs m b size k lent out a) (e : n ≡ pagedCount a) (R : RowsRead (out ++ rest) n rows) where
@@ -201,9 +193,9 @@ module _ {m : Map} {b : Book} {size room : ℕ} {k : Key} {lent out : List ℕ} 
     page = pageRows size k (rowsOf b)
 
     abbrev Shows : Type 0
-    Shows = PagingIs 0 (length page) (pageMore size k (rowsOf b)) (lastKey k page) (page ++ drop (length page) was) (put n rows was) a
+    Shows = PagingIs 0 (length page) (pageMore size k (rowsOf b)) (lastKey k page) (over was page) (put n rows was) a
 
-    module _ (M : GoodMap m) (G : GoodBook (mapYard m) b) (s : size ≤ 64) where
+    module _ (M : GoodMap m) (G : GoodBook (mapYard m) b) (s : size ≤ pageLimit) where
       shows : size ≤ records lent → PageDone (rowsOf b) size k lent out a → Shows
       shows q D =
           let c : n ≡ length page = e ∙ D .counts in
@@ -217,7 +209,7 @@ module _ {m : Map} {b : Book} {size room : ℕ} {k : Key} {lent out : List ℕ} 
       paged (inr y) = inr (omega (arith, y .0, lent-room L), shows (y .0) (y .1))
 
     page-says : PageRecords m b size k was (put n rows was) a
-    page-says = instead not-shown (λ M. instead not-shown (λ G. instead not-shown (λ s. instead not-shown (λ c. paged M G (s .1))))) h
+    page-says = checked-as (same-papers (papersOf m b)) (λ i _. not-shown) (λ M G. instead not-shown (λ s. instead not-shown (λ c. paged M G (s .1)))) h
 
   pub page-found : PageFound m b size k room (record { rows = rows; count = n; answer = a })
   page-found = record {
@@ -227,9 +219,9 @@ module _ {m : Map} {b : Book} {size room : ℕ} {k : Key} {lent out : List ℕ} 
   }
 
 -- the page written to the front of a list of 1,280 records
-module _ {m : Map} {b : Book} {size room n : ℕ} {key : Key} (L : Lent room n) (z : List ℕ) (l : length z ≡ 14080) {p : List ℕ} {a : Paged} {k : ℕ}
+module _ {m : Map} {b : Book} {size room n : ℕ} {key : Key} (L : Lent room n) (z : List ℕ) (l : length z ≡ listSize) {p : List ℕ} {a : Paged} {k : ℕ}
     (h : PageIs m b size key (take n z) p a) (e : k ≡ pagedCount a) where
-  pub page-readable : length p ≡ length (take n z) → (k ≤ 1280) × (11 * k ≤ length (p ++ drop n z))
+  pub page-readable : length p ≡ length (take n z) → (k ≤ planLimit) × (rowSize * k ≤ length (p ++ drop n z))
   page-readable q =
       let w = page-within h in
       let f = lent-few (lent-front L z l) in

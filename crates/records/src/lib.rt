@@ -5,33 +5,35 @@ use rules::Map;
 use rules::Paged;
 use rules::Planned;
 use rules::Row;
+use rules::Trip;
 ghost use mathlib.Core.Path.{_≡_};
 ghost use mathlib.Core.List.{_++_};
-ghost use Prim.Native.Nat.{_+_, _*_, _≤_};
+ghost use Prim.Native.Nat.{_*_, _≤_};
 ghost use lib.ListN.{length, take, drop};
+ghost use Rattle.rules.specs.Limits.{planLimit};
 ghost use Rattle.rules.specs.Rows.{cursorKey};
+ghost use Rattle.rules.specs.Bytes.{rowSize};
 ghost use Rattle.rules.specs.Answer.{PlanRecords, PageRecords};
-ghost use Rattle.rules.specs.Portal.{rowIn};
 ghost use Rattle.records.specs.Reading.{RowsRead};
 ghost use Rattle.records.specs.Found.{Lent, PlanFound, PageFound};
 
 // A plan's rows, none where it is refused, and the answer.
 pub struct FoundPlan {
-    pub rows: [Row; 1280],
+    pub rows: [Row; Trip::STAYS],
     pub count: usize,
     pub answer: Planned,
 }
 
 // A page's rows, none where it is refused, and the answer.
 pub struct FoundPage {
-    pub rows: [Row; 1280],
+    pub rows: [Row; Trip::STAYS],
     pub count: usize,
     pub answer: Paged,
 }
 
 // The first count rows over the first records of the caller's list.
-fn copy_rows(rows: [Row; 1280], count: usize, out: &mut [Row])
-    requires { ⌜ (count ≤ 1280) × (count ≤ length (now out)) ⌝ }
+fn copy_rows(rows: [Row; Trip::STAYS], count: usize, out: &mut [Row])
+    requires { ⌜ (count ≤ planLimit) × (count ≤ length (now out)) ⌝ }
     ensures { λ _. ⌜ now (out .exit) ≡ take count rows ++ drop count (now (out .entry)) ⌝ }
 {
     let mut i = 0;
@@ -41,50 +43,27 @@ fn copy_rows(rows: [Row; 1280], count: usize, out: &mut [Row])
     }
 }
 
-// The length of a list of packed rows with as many records as there is room for, at most 1,280.
+// The length of a list of packed rows with as many records as there is room for, but for no more than a plan can have.
 fn lent(room: usize) -> usize
     ensures { λ n. ⌜ Lent room n ⌝ }
 {
-    if room < 1280 {
-        return 11 * room;
+    if room < Trip::STAYS {
+        return Row::BYTES * room;
     }
-    14080
-}
-
-// The row that stands at an index of the bytes.
-fn read_row(s: &[u8], at: usize) -> Row
-    requires { ⌜ at + 11 ≤ length (now s) ⌝ }
-    ensures { λ r. ⌜ r ≡ rowIn (now (s .entry)) at ⌝ }
-{
-    let entry = wire::three(s, at + 1);
-    let ticket = wire::three(s, at + 4);
-    let exit = wire::three(s, at + 7);
-    Row {
-        place: s[at],
-        entry: entry,
-        ticket: ticket,
-        exit: exit,
-        next: s[at + 10],
-    }
+    Row::LIST
 }
 
 // The first count rows of a list of packed rows.
-fn read_rows(s: &[u8], count: usize) -> [Row; 1280]
-    requires { ⌜ count ≤ 1280 ⌝ }
-    requires { ⌜ 11 * count ≤ length (now s) ⌝ }
+fn read_rows(s: &[u8], count: usize) -> [Row; Trip::STAYS]
+    requires { ⌜ count ≤ planLimit ⌝ }
+    requires { ⌜ rowSize * count ≤ length (now s) ⌝ }
     ensures { λ r. ⌜ RowsRead (now (s .entry)) count r ⌝ }
 {
-    let none = Row {
-        place: 0,
-        entry: 0,
-        ticket: 0,
-        exit: 0,
-        next: 0,
-    };
-    let mut rows = [none; 1280];
+    let none = Row::none();
+    let mut rows = [none; Trip::STAYS];
     let mut j: usize = 0;
     while j < count {
-        let r = read_row(s, 11 * j);
+        let r = wire::read_row(s, Row::BYTES * j);
         rows[j] = r;
         j += 1;
     }
@@ -95,7 +74,7 @@ fn read_rows(s: &[u8], count: usize) -> [Row; 1280]
 fn find_plan(m: Map, b: Book, start: u32, destination: u32, second: u32, room: usize) -> FoundPlan
     ensures { λ f. ⌜ PlanFound m b start destination second room f ⌝ }
 {
-    let mut list = [0u8; 14080];
+    let mut list = [0u8; Row::LIST];
     let n = lent(room);
     let a = planning::plan(m, b, start, destination, second, &mut list[..n]);
     let count = a.count();
@@ -127,7 +106,7 @@ pub fn plan_rows(
 fn find_page(m: Map, b: Book, size: u32, c: Cursor, room: usize) -> FoundPage
     ensures { λ f. ⌜ PageFound m b size (cursorKey c) room f ⌝ }
 {
-    let mut list = [0u8; 14080];
+    let mut list = [0u8; Row::LIST];
     let n = lent(room);
     let a = paging::page(m, b, size, c, &mut list[..n]);
     let count = a.count();

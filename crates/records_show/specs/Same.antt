@@ -1,4 +1,4 @@
--- Rows compared field by field, and eight records one after the other: the first i are equal.
+-- Eight records compared one after the other: the first i are equal.
 use Prim.Native.Nat.{ℕ, _+_, _≤_, _<_}
 use mathlib.Core.Path.{_≡_, ap, _∙_, sym}
 use mathlib.Core.Logic.{⊎-elim}
@@ -9,9 +9,6 @@ use lib.Seq.{ext-getD}
 use Rattle.laws.specs.Order.{lt-or-ge}
 use Rattle.rules.specs.declared.Row.{Row}
 use Rattle.rules.specs.Rows.{noRow, rowAt}
-
-pub row-same : (x y : Row) → x .place ≡ y .place → x .entry ≡ y .entry → x .ticket ≡ y .ticket → x .exit ≡ y .exit → x .next ≡ y .next → x ≡ y
-row-same x y p e t q n = λ i. record { place = p i; entry = e i; ticket = t i; exit = q i; next = n i }
 
 pub record EqualTo (i : ℕ) (a b : List Row) : Type 0 where
   pub within : i ≤ 8

@@ -3,7 +3,7 @@
 -- past the rows keep their values.
 use Prim.Native.Nat.{ℕ, _≤_, _<_}
 use mathlib.Core.Path.{_≡_, sym, ap, subst, _∙_}
-use mathlib.Core.Logic.{inl, inr, ⊎-elim}
+use mathlib.Core.Logic.{⊎-elim}
 use mathlib.Core.Bool.{true}
 use mathlib.Core.List.{List, [], _∷_, _++_, append-assoc}
 use native.Mathlib.Omega.{arith}
@@ -16,19 +16,19 @@ use Rattle.rules.specs.declared.Paged.{Paged}
 use Rattle.rules.specs.declared.Map.{Map}
 use Rattle.rules.specs.declared.Book.{Book}
 use Rattle.rules.specs.Map.{mapYard}
-use Rattle.rules.specs.Rows.{Key, firstKey, lessb}
+use Rattle.rules.specs.Rows.{row, Key, firstKey, lessb}
 use Rattle.rules.specs.Plan.{Stay, arrival, runRows}
 use Rattle.rules.specs.Book.{GoodBook, bookOf}
-use Rattle.rules.specs.Answer.{Unless, Planning, PlanRefused, PlanAnswers, PlanRecords, plannedNumber, plannedArrival, plannedCount, PagingIs, PageRefused, PageRecords, pagedNumber, pagedCount, pagedMore, over}
+use Rattle.rules.specs.Gate.{Unless}
+use Rattle.rules.specs.GateLaws.{past, passed}
+use Rattle.rules.specs.Answer.{Planning, PlanRefused, PlanAnswers, PlanRecords, plannedNumber, plannedArrival, plannedCount}
+use Rattle.rules.specs.Answer.{PagingIs, PageRefused, PageRecords, pagedNumber, pagedCount, pagedMore, over}
 use Rattle.keeping.specs.Books.{rows-of-book, good-book}
 use Rattle.cases.specs.Barn.{barn, barnMap, barn-good}
 use Rattle.cases.specs.Past.{rowsNow, bookNow}
 use Rattle.cases.specs.Case.{Plans}
 use Rattle.cases.specs.Case.Case.{plans}
 use Rattle.cases.specs.Table.{both, table, table-holds, rows-both}
-
-abbrev pub row : ℕ → ℕ → ℕ → ℕ → ℕ → Row
-row p a k b n = record { place = p; entry = a; ticket = k; exit = b; next = n }
 
 -- eight records before the call, and after a plan and a page that fit
 abbrev pub marks : List Row
@@ -67,11 +67,6 @@ whole-over M P rows n h k e f =
 
 -- ---- plan
 
--- past a refusal whose condition does not hold
-past : {ok bad rest : Type 0} → ok → Unless ok bad rest → rest
-past h (inl x) = absurd (x .0 h)
-past h (inr y) = y .1
-
 abbrev way : List Stay
 way = record { place = 0; entry = 10; exit = 30 } ∷ record { place = 1; entry = 30; exit = 50 } ∷ record { place = 3; entry = 50; exit = 60 } ∷ []
 
@@ -88,7 +83,7 @@ plan-left : {was out : List Row} {r : Planned} → PlanRecords barnMap bothBook 
 plan-left {was} {out} {r} h =
     let A = way-planned .answer in
     let a : PlanAnswers (length was) (over was) barn (rowsNow both) 0 3 10 was out r =
-    subst (λ (rows : List Row). PlanAnswers (length was) (over was) barn rows 0 3 10 was out r) (rows-of-book bothRows 3 ∙ sym rows-both) (past good-both (past barn-good h)) in
+    subst (λ (rows : List Row). PlanAnswers (length was) (over was) barn rows 0 3 10 was out r) (rows-of-book bothRows 3 ∙ sym rows-both) (passed barn-good good-both h) in
     let x = past (way, A .permitted) (past (omega arith) (past (omega arith, omega arith) a)) in
     subst (PlanLeft was out r) (A .only (x .0) (x .1)) (x .2)
 
@@ -131,7 +126,7 @@ plan-shown m b was {n} {rows} {a} em eb ew k h =
 page-left : {was out : List Row} {r : Paged} → PageRecords barnMap bothBook 2 firstKey was out r
     → Unless (2 ≤ length was) (PageRefused 6 was out r) (PagingIs 0 2 true (record { place = 0; entry = 0; ticket = 2 }) (over was (row 0 0 1 10 1 ∷ row 0 0 2 10 2 ∷ [])) out r)
 unfolding lessb
-page-left {was} {out} {r} h = past (record { place = omega arith; entry = omega arith; ticket = omega arith }) (past (omega arith, omega arith) (past good-both (past barn-good h)))
+page-left {was} {out} {r} h = past (record { place = omega arith; entry = omega arith; ticket = omega arith }) (past (omega arith, omega arith) (passed barn-good good-both h))
 
 pub record PageOn (n : ℕ) (rows : List Row) (a : Paged) : Type 0 where
   pub short-rows : n < 2 → rows ≡ marks

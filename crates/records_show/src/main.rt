@@ -8,9 +8,9 @@ use rules::Place;
 use rules::Planned;
 use rules::Row;
 ghost use mathlib.Core.Path.{_≡_};
-ghost use mathlib.Core.Bool.{true};
 ghost use Prim.Native.Nat.{_≤_};
 ghost use lib.ListN.{take, drop};
+ghost use Rattle.laws.specs.Tests.{Decides};
 ghost use Rattle.rules.specs.Rows.{cursorKey};
 ghost use Rattle.rules.specs.Answer.{PlanRecords, PageRecords};
 ghost use Rattle.cases.specs.Barn.{barnMap};
@@ -68,7 +68,7 @@ fn barn() -> Map
         capacity: 0,
         duration: 0,
     };
-    let mut places = [no_place; 256];
+    let mut places = [no_place; Map::PLACES];
     places[0] = Place {
         capacity: 2,
         duration: 10,
@@ -86,7 +86,7 @@ fn barn() -> Map
         duration: 10,
     };
     let no_link = Link { from: 0, to: 0 };
-    let mut links = [no_link; 1024];
+    let mut links = [no_link; Map::LINKS];
     links[0] = Link { from: 0, to: 1 };
     links[1] = Link { from: 1, to: 3 };
     links[2] = Link { from: 0, to: 2 };
@@ -105,56 +105,14 @@ fn barn() -> Map
 fn booked() -> Book
     ensures { λ r. ⌜ r ≡ bothBook ⌝ }
 {
-    let none = Row {
-        place: 0,
-        entry: 0,
-        ticket: 0,
-        exit: 0,
-        next: 0,
-    };
-    let mut rows = [none; 1024];
-    rows[0] = Row {
-        place: 0,
-        entry: 0,
-        ticket: 1,
-        exit: 10,
-        next: 1,
-    };
-    rows[1] = Row {
-        place: 0,
-        entry: 0,
-        ticket: 2,
-        exit: 10,
-        next: 2,
-    };
-    rows[2] = Row {
-        place: 1,
-        entry: 10,
-        ticket: 1,
-        exit: 30,
-        next: 3,
-    };
-    rows[3] = Row {
-        place: 2,
-        entry: 10,
-        ticket: 2,
-        exit: 40,
-        next: 3,
-    };
-    rows[4] = Row {
-        place: 3,
-        entry: 30,
-        ticket: 1,
-        exit: 40,
-        next: 3,
-    };
-    rows[5] = Row {
-        place: 3,
-        entry: 40,
-        ticket: 2,
-        exit: 50,
-        next: 3,
-    };
+    let none = Row::none();
+    let mut rows = [none; Book::ROWS];
+    rows[0] = Row::new(0, 0, 1, 10, 1);
+    rows[1] = Row::new(0, 0, 2, 10, 2);
+    rows[2] = Row::new(1, 10, 1, 30, 3);
+    rows[3] = Row::new(2, 10, 2, 40, 3);
+    rows[4] = Row::new(3, 30, 1, 40, 3);
+    rows[5] = Row::new(3, 40, 2, 50, 3);
     Book {
         rows: rows,
         count: 6,
@@ -166,13 +124,7 @@ fn booked() -> Book
 fn marked() -> [Row; 8]
     ensures { λ r. ⌜ r ≡ marks ⌝ }
 {
-    let mark = Row {
-        place: 9,
-        entry: 9,
-        ticket: 9,
-        exit: 9,
-        next: 9,
-    };
+    let mark = Row::new(9, 9, 9, 9, 9);
     [mark; 8]
 }
 
@@ -181,27 +133,9 @@ fn planned_rows() -> [Row; 8]
     ensures { λ r. ⌜ r ≡ planned ⌝ }
 {
     let mut rows = marked();
-    rows[0] = Row {
-        place: 0,
-        entry: 10,
-        ticket: 0,
-        exit: 30,
-        next: 1,
-    };
-    rows[1] = Row {
-        place: 1,
-        entry: 30,
-        ticket: 0,
-        exit: 50,
-        next: 3,
-    };
-    rows[2] = Row {
-        place: 3,
-        entry: 50,
-        ticket: 0,
-        exit: 60,
-        next: 3,
-    };
+    rows[0] = Row::new(0, 10, 0, 30, 1);
+    rows[1] = Row::new(1, 30, 0, 50, 3);
+    rows[2] = Row::new(3, 50, 0, 60, 3);
     rows
 }
 
@@ -210,25 +144,13 @@ fn paged_rows() -> [Row; 8]
     ensures { λ r. ⌜ r ≡ paged ⌝ }
 {
     let mut rows = marked();
-    rows[0] = Row {
-        place: 0,
-        entry: 0,
-        ticket: 1,
-        exit: 10,
-        next: 1,
-    };
-    rows[1] = Row {
-        place: 0,
-        entry: 0,
-        ticket: 2,
-        exit: 10,
-        next: 2,
-    };
+    rows[0] = Row::new(0, 0, 1, 10, 1);
+    rows[1] = Row::new(0, 0, 2, 10, 2);
     rows
 }
 
 fn same_row(x: Row, y: Row) -> bool
-    ensures { λ r. ⌜ (r ≡ true → x ≡ y) × (x ≡ y → r ≡ true) ⌝ }
+    ensures { λ r. ⌜ Decides r (x ≡ y) ⌝ }
 {
     if x.place != y.place {
         return false;
@@ -247,7 +169,7 @@ fn same_row(x: Row, y: Row) -> bool
 
 // All eight records are equal, each to its own.
 fn same_rows(a: [Row; 8], b: [Row; 8]) -> bool
-    ensures { λ r. ⌜ (r ≡ true → a ≡ b) × (a ≡ b → r ≡ true) ⌝ }
+    ensures { λ r. ⌜ Decides r (a ≡ b) ⌝ }
 {
     let mut i: usize = 0;
     while i < 8 {

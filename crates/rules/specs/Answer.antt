@@ -1,9 +1,8 @@
 -- The calls' answers: the numbers of the table, their order, and what is left in the caller's list.
-use Prim.Native.Nat.{ℕ, _+_, _*_, _/_, _%_, _≤_, _<_}
+use Prim.Native.Nat.{ℕ, _+_, _≤_, _<_}
 use mathlib.Core.Path.{_≡_}
-use mathlib.Core.Logic.{_⊎_}
 use mathlib.Core.Bool.{Bool, false}
-use mathlib.Core.List.{List, [], _∷_, _++_, List·Memᴰ}
+use mathlib.Core.List.{List, _++_, List·Memᴰ}
 use lib.ListN.{length, drop}
 use Rattle.rules.specs.declared.Row.{Row}
 use Rattle.rules.specs.declared.Map.{Map}
@@ -23,10 +22,12 @@ use Rattle.rules.specs.declared.Cancelling.{Cancelling}
 use Rattle.rules.specs.Limits.{day, rowLimit, ticketLimit, pageLimit}
 use Rattle.rules.specs.Rows.{Key, cursorKey, firstKey, keep, insertAll}
 use Rattle.rules.specs.Page.{pageRows, pageMore, lastKey}
-use Rattle.rules.specs.Map.{Yard, GoodMap, mapYard}
+use Rattle.rules.specs.Map.{Yard, mapYard}
 use Rattle.rules.specs.Plan.{Stay, arrival, Permitted, runRows}
-use Rattle.rules.specs.Book.{GoodBook, rowsOf, bookOf, ofTicket, otherTicket}
+use Rattle.rules.specs.Book.{rowsOf, bookOf, ofTicket, otherTicket}
 use Rattle.rules.specs.Chosen.{Chosen}
+use Rattle.rules.specs.Bytes.{records, written}
+use Rattle.rules.specs.Gate.{Unless, Papers, papersOf, Checked}
 
 -- the table's numbers
 abbrev pub number : Refusal → ℕ
@@ -42,32 +43,6 @@ number UnknownTicket = 9
 number BadSize = 10
 number BadCursor = 11
 number BadFrame = 12
-
--- "A number is given exactly when its condition holds and none before it in the call's order does":
--- `bad` where `ok` does not hold, and `rest` where it does
-abbrev pub Unless : Type 0 → Type 0 → Type 0 → Type 0
-Unless ok bad rest = ((ok → ⊥) × bad) ⊎ (ok × rest)
-
--- "rows packed as in the frames": place(1) entry(3) ticket(3) exit(3) next(1), high byte first
-abbrev pub rowBytes : Row → List ℕ
-rowBytes r =
-    r .place % 256
-    ∷ (r .entry / 65536 % 256 ∷ (r .entry / 256 % 256 ∷ (r .entry % 256
-    ∷ (r .ticket / 65536 % 256 ∷ (r .ticket / 256 % 256 ∷ (r .ticket % 256
-    ∷ (r .exit / 65536 % 256 ∷ (r .exit / 256 % 256 ∷ (r .exit % 256
-    ∷ (r .next % 256 ∷ []))))))))))
-
-abbrev pub rowsBytes : List Row → List ℕ
-rowsBytes [] = []
-rowsBytes (r ∷ rows) = rowBytes r ++ rowsBytes rows
-
--- "a list of as many records as fit it whole"
-abbrev pub records : List ℕ → ℕ
-records list = length list / 11
-
--- "Page and plan rows are written to the caller's own list of row records; records past the count keep their values."
-abbrev pub written : List Row → List ℕ → List ℕ
-written rows was = rowsBytes rows ++ drop (11 * length rows) was
 
 -- ---- plan
 
@@ -114,12 +89,11 @@ PlanDone plan was out r = Planning 0 (arrival plan) (length plan) (written (runR
 abbrev pub PlanSound : Yard → List Row → ℕ → ℕ → ℕ → List ℕ → List ℕ → Planned → Type 0
 PlanSound Y rows start dest s was out r = PlanAnswers (records was) (λ l. written l was) Y rows start dest s was out r
 
-module _ (map-ok book-ok : Type 0) (Y : Yard) (rows : List Row) (start dest s : ℕ) (was out : List ℕ) (r : Planned) where
-  abbrev pub PlanSays : Type 0
-  PlanSays = Unless map-ok (PlanRefused 1 was out r) (Unless book-ok (PlanRefused 2 was out r) (PlanSound Y rows start dest s was out r))
+abbrev pub PlanSays : Papers → ℕ → ℕ → ℕ → List ℕ → List ℕ → Planned → Type 0
+PlanSays g start dest s was out r = Checked g (λ n. PlanRefused n was out r) (PlanSound (g .yard) (g .rows) start dest s was out r)
 
 abbrev pub PlanIs : Map → Book → ℕ → ℕ → ℕ → List ℕ → List ℕ → Planned → Type 0
-PlanIs m b start dest s was out r = PlanSays (GoodMap m) (GoodBook (mapYard m) b) (mapYard m) (rowsOf b) start dest s was out r
+PlanIs m b start dest s was out r = PlanSays (papersOf m b) start dest s was out r
 
 -- ---- book
 
@@ -156,18 +130,20 @@ BookDone plan b r =
     BookingIs 0 (b .«next_ticket») (arrival plan) (length plan)
     (bookOf (insertAll (runRows (b .«next_ticket») plan) (rowsOf b)) (b .«next_ticket» + 1)) r
 
--- "book 1, 2, 3, 4, 8, 5, 7"
+-- "book 1, 2, 3, 4, 8, 5, 7": first what is said where map and book are sound
+module _ (Y : Yard) (rows : List Row) (b : Book) (start dest s : ℕ) (r : Booking) where
+  abbrev pub BookSound : Type 0
+  BookSound =
+      Unless ((start < Y .places) × (dest < Y .places)) (BookRefused 3 b r)
+      (Unless (s ≤ day) (BookRefused 4 b r)
+      (Unless (b .«next_ticket» < ticketLimit) (BookRefused 8 b r)
+      (Unless ((plan : List Stay) × Permitted Y rows start dest s plan) (BookRefused 5 b r)
+      ((plan : List Stay) × Chosen Y rows start dest s plan
+      × Unless (b .count + length plan ≤ rowLimit) (BookRefused 7 b r)
+      (BookDone plan b r)))))
+
 abbrev pub BookIs : Map → Book → ℕ → ℕ → ℕ → Booking → Type 0
-BookIs m b start dest s r =
-    Unless (GoodMap m) (BookRefused 1 b r)
-    (Unless (GoodBook (mapYard m) b) (BookRefused 2 b r)
-    (Unless ((start < mapYard m .places) × (dest < mapYard m .places)) (BookRefused 3 b r)
-    (Unless (s ≤ day) (BookRefused 4 b r)
-    (Unless (b .«next_ticket» < ticketLimit) (BookRefused 8 b r)
-    (Unless ((plan : List Stay) × Permitted (mapYard m) (rowsOf b) start dest s plan) (BookRefused 5 b r)
-    ((plan : List Stay) × Chosen (mapYard m) (rowsOf b) start dest s plan
-    × Unless (b .count + length plan ≤ rowLimit) (BookRefused 7 b r)
-    (BookDone plan b r)))))))
+BookIs m b start dest s r = Checked (papersOf m b) (λ n. BookRefused n b r) (BookSound (mapYard m) (rowsOf b) b start dest s r)
 
 -- ---- cancel
 
@@ -197,13 +173,12 @@ pub record Known (rows : List Row) (ticket : ℕ) : Type 0 where
   pub booked : List·Memᴰ row rows
   pub has : row .ticket ≡ ticket
 
--- "cancel 1, 2, 9"
+-- "cancel 1, 2, 9": first what is said where map and book are sound
+abbrev pub CancelSound : Book → ℕ → Cancelling → Type 0
+CancelSound b ticket r = Unless (Known (rowsOf b) ticket) (CancelRefused 9 b r) (CancelDone ticket b r)
+
 abbrev pub CancelIs : Map → Book → ℕ → Cancelling → Type 0
-CancelIs m b ticket r =
-    Unless (GoodMap m) (CancelRefused 1 b r)
-    (Unless (GoodBook (mapYard m) b) (CancelRefused 2 b r)
-    (Unless (Known (rowsOf b) ticket) (CancelRefused 9 b r)
-    (CancelDone ticket b r)))
+CancelIs m b ticket r = Checked (papersOf m b) (λ n. CancelRefused n b r) (CancelSound b ticket r)
 
 -- ---- page
 
@@ -258,12 +233,11 @@ PageDone rows size k was out r =
 abbrev pub PageSound : Yard → List Row → ℕ → Key → List ℕ → List ℕ → Paged → Type 0
 PageSound Y rows size k was out r = PageAnswers (records was) (λ l. written l was) Y rows size k was out r
 
-module _ (map-ok book-ok : Type 0) (Y : Yard) (rows : List Row) (size : ℕ) (k : Key) (was out : List ℕ) (r : Paged) where
-  abbrev pub PageSays : Type 0
-  PageSays = Unless map-ok (PageRefused 1 was out r) (Unless book-ok (PageRefused 2 was out r) (PageSound Y rows size k was out r))
+abbrev pub PageSays : Papers → ℕ → Key → List ℕ → List ℕ → Paged → Type 0
+PageSays g size k was out r = Checked g (λ n. PageRefused n was out r) (PageSound (g .yard) (g .rows) size k was out r)
 
 abbrev pub PageIs : Map → Book → ℕ → Key → List ℕ → List ℕ → Paged → Type 0
-PageIs m b size k was out r = PageSays (GoodMap m) (GoodBook (mapYard m) b) (mapYard m) (rowsOf b) size k was out r
+PageIs m b size k was out r = PageSays (papersOf m b) size k was out r
 
 -- ---- the caller's list as row records
 
@@ -273,12 +247,8 @@ over was rows = rows ++ drop (length rows) was
 
 abbrev pub PlanRecords : Map → Book → ℕ → ℕ → ℕ → List Row → List Row → Planned → Type 0
 PlanRecords m b start dest s was out r =
-    Unless (GoodMap m) (PlanRefused 1 was out r)
-    (Unless (GoodBook (mapYard m) b) (PlanRefused 2 was out r)
-    (PlanAnswers (length was) (over was) (mapYard m) (rowsOf b) start dest s was out r))
+    Checked (papersOf m b) (λ n. PlanRefused n was out r) (PlanAnswers (length was) (over was) (mapYard m) (rowsOf b) start dest s was out r)
 
 abbrev pub PageRecords : Map → Book → ℕ → Key → List Row → List Row → Paged → Type 0
 PageRecords m b size k was out r =
-    Unless (GoodMap m) (PageRefused 1 was out r)
-    (Unless (GoodBook (mapYard m) b) (PageRefused 2 was out r)
-    (PageAnswers (length was) (over was) (mapYard m) (rowsOf b) size k was out r))
+    Checked (papersOf m b) (λ n. PageRefused n was out r) (PageAnswers (length was) (over was) (mapYard m) (rowsOf b) size k was out r)

@@ -9,7 +9,7 @@ use Rattle.rules.specs.declared.Row.{Row}
 use Rattle.rules.specs.declared.Book.{Book}
 use Rattle.rules.specs.Limits.{day, rowLimit, ticketLimit}
 use Rattle.rules.specs.Map.{Yard}
-use Rattle.rules.specs.Rows.{noRow, rowAt, Rising, load, crosses}
+use Rattle.rules.specs.Rows.{noRow, rowAt, Rising, load, barred}
 use Rattle.rules.specs.Plan.{Stay, Plan, runRows}
 
 -- "A row's ranges are: place and next on the map, entry and exit to 86,400, ticket at least 1 and below the next number."
@@ -28,6 +28,10 @@ pub record Whole (Y : Yard) (rows : List Row) (ticket : ℕ) : Type 0 where
   pub booked : (r : Row) → List·Memᴰ r (runRows ticket plan) → List·Memᴰ r rows
   pub only : (r : Row) → List·Memᴰ r rows → r .ticket ≡ ticket → List·Memᴰ r (runRows ticket plan)
 
+-- no row that goes on is barred among these rows
+abbrev pub Unbarred : List Row → Type 0
+Unbarred rows = (r : Row) → List·Memᴰ r rows → (r .next ≡ r .place → ⊥) → barred rows (r .place) (r .next) (r .exit) ≡ false
+
 pub record WellFormed (Y : Yard) (rows : List Row) (next-ticket : ℕ) : Type 0 where
   -- "A book holds at most 1,024 rows in strictly rising key order, and the next ticket number, 1 to 1,000,000."
   pub few : length rows ≤ rowLimit
@@ -39,7 +43,7 @@ pub record WellFormed (Y : Yard) (rows : List Row) (next-ticket : ℕ) : Type 0 
   pub whole : (r : Row) → List·Memᴰ r rows → Whole Y rows (r .ticket)
   -- "with load and exchange kept among all rows"
   pub room : (p t : ℕ) → p < Y .places → load rows p t ≤ Y .cap p
-  pub exchange : (r : Row) → List·Memᴰ r rows → (r .next ≡ r .place → ⊥) → crosses rows (r .next) (r .place) (r .exit) ≡ false
+  pub exchange : Unbarred rows
 
 -- the rows of the array form, those that the count names
 abbrev pub rowsOf : Book → List Row

@@ -5,6 +5,8 @@ use mathlib.Core.Bool.{Bool, true, false}
 use mathlib.Core.List.{List, [], _∷_, _++_}
 use lib.ListN.{length, take, drop, set, replicate}
 use lib.Dec.{eqb, ltb}
+use Rattle.rules.specs.declared.Place.{Place}
+use Rattle.rules.specs.declared.Link.{Link}
 use Rattle.rules.specs.declared.Map.{Map}
 use Rattle.rules.specs.declared.Book.{Book}
 use Rattle.rules.specs.declared.State.{State}
@@ -13,11 +15,12 @@ use Rattle.rules.specs.declared.Paged.{Paged}
 use Rattle.rules.specs.declared.Booking.{Booking}
 use Rattle.rules.specs.declared.Cancelling.{Cancelling}
 use Rattle.rules.specs.Limits.{placeLimit, linkLimit}
-use Rattle.rules.specs.Map.{noLink}
+use Rattle.rules.specs.Map.{zeroPlace, noLink}
 use Rattle.rules.specs.Rows.{bit}
 use Rattle.rules.specs.Book.{bookOf}
-use Rattle.rules.specs.Answer.{Unless, PlanIs, BookIs, CancelIs, PageIs, plannedNumber, plannedArrival, plannedCount, bookedNumber, bookedTicket, bookedArrival, bookedCount, cancelledNumber, cancelledCount, pagedNumber, pagedCount, pagedMore}
-use Rattle.rules.specs.Portal.{byteAt, num2, num3}
+use Rattle.rules.specs.Bytes.{byteAt, num3, bytes2, bytes3, placeSize, placeIn, linkSize, linkIn, rowSize, listSize, keyIn}
+use Rattle.rules.specs.Gate.{Unless}
+use Rattle.rules.specs.Answer.{PlanIs, BookIs, CancelIs, PageIs, plannedNumber, plannedArrival, plannedCount, bookedNumber, bookedTicket, bookedArrival, bookedCount, cancelledNumber, cancelledCount, pagedNumber, pagedCount, pagedMore}
 
 -- "uppercase hexadecimal, two digits a byte"
 abbrev pub digitBy : Bool → ℕ → ℕ
@@ -35,13 +38,6 @@ hexOf (b ∷ bytes) = digit (b / 16) ∷ (digit (b % 16) ∷ hexOf bytes)
 abbrev pub lineOf : List ℕ → List ℕ
 lineOf bytes = hexOf bytes ++ (10 ∷ [])
 
--- "numbers high byte first"
-abbrev pub bytes2 : ℕ → List ℕ
-bytes2 x = x / 256 % 256 ∷ (x % 256 ∷ [])
-
-abbrev pub bytes3 : ℕ → List ℕ
-bytes3 x = x / 65536 % 256 ∷ (x / 256 % 256 ∷ (x % 256 ∷ []))
-
 -- "What a line means goes by its first byte": the length of a frame of this kind, 0 where there is no such kind
 abbrev pub lengthBy : Bool → ℕ → ℕ → ℕ
 lengthBy true n m = n
@@ -49,7 +45,7 @@ lengthBy false n m = m
 
 unfoldable pub frameLength : ℕ → ℕ
 frameLength k =
-    lengthBy (eqb k 1) 4 (lengthBy (eqb k 2) 3 (lengthBy (eqb k 3) 6 (lengthBy (eqb k 4) 6 (lengthBy (eqb k 5) 4 (lengthBy (eqb k 6) 9 0)))))
+    lengthBy (eqb k 1) (1 + placeSize) (lengthBy (eqb k 2) (1 + linkSize) (lengthBy (eqb k 3) 6 (lengthBy (eqb k 4) 6 (lengthBy (eqb k 5) 4 (lengthBy (eqb k 6) 9 0)))))
 
 -- a line that is a frame: its bytes, and a kind and length that there are
 pub record Frame (line bytes : List ℕ) : Type 0 where
@@ -60,24 +56,24 @@ pub record Frame (line bytes : List ℕ) : Type 0 where
 
 -- "`lanebook` begins with no places, no links and an empty book whose next ticket is 1."
 abbrev pub emptyMap : Map
-emptyMap = record { places = replicate 256 (record { capacity = 0; duration = 0 }); links = replicate 1024 noLink; «place_count» = 0; «link_count» = 0 }
+emptyMap = record { places = replicate placeLimit zeroPlace; links = replicate linkLimit noLink; «place_count» = 0; «link_count» = 0 }
 
 abbrev pub begins : State
 begins = record { map = emptyMap; book = bookOf [] 1; closed = false }
 
 -- "A well-shaped 01 or 02 is kept": the next place, a link
-abbrev pub withPlace : Map → ℕ → ℕ → Map
-withPlace m c d = record {
-  places = set (m .places) (m .«place_count») (record { capacity = c; duration = d });
+abbrev pub withPlace : Map → Place → Map
+withPlace m p = record {
+  places = set (m .places) (m .«place_count») p;
   links = m .links;
   «place_count» = m .«place_count» + 1;
   «link_count» = m .«link_count»;
 }
 
-abbrev pub withLink : Map → ℕ → ℕ → Map
-withLink m p q = record {
+abbrev pub withLink : Map → Link → Map
+withLink m l = record {
   places = m .places;
-  links = set (m .links) (m .«link_count») (record { from = p; to = q });
+  links = set (m .links) (m .«link_count») l;
   «place_count» = m .«place_count»;
   «link_count» = m .«link_count» + 1;
 }
@@ -94,11 +90,11 @@ after00 (suc n) more = suc n ∷ []
 -- "Row lines follow for plan and page": the first n records of a list
 abbrev pub rowLines : ℕ → List ℕ → List ℕ
 rowLines zero list = []
-rowLines (suc n) list = lineOf (take 11 list) ++ rowLines n (drop 11 list)
+rowLines (suc n) list = lineOf (take rowSize list) ++ rowLines n (drop rowSize list)
 
 -- "The program's answer list has 1,280 records"
 abbrev pub answerList : List ℕ
-answerList = replicate 14080 0
+answerList = replicate listSize 0
 
 -- "plan adds arrival(3) count(2), book ticket(3) arrival(3) count(2), cancel count(2), page count(1) more(1)"
 abbrev pub planLines : Planned → List ℕ → List ℕ
@@ -128,12 +124,12 @@ module _ (s : State) (bytes : List ℕ) (s′ : State) (said : List ℕ) where
   abbrev pub PlaceFrame : Type 0
   PlaceFrame =
       Unless ((s .closed ≡ false) × (s .map .«place_count» < placeLimit)) Refused12
-      (Said (record { map = withPlace (s .map) (byteAt bytes 1) (num2 bytes 2); book = s .book; closed = false }) (lineOf (0 ∷ [])) s′ said)
+      (Said (record { map = withPlace (s .map) (placeIn bytes 1); book = s .book; closed = false }) (lineOf (0 ∷ [])) s′ said)
 
   abbrev pub LinkFrame : Type 0
   LinkFrame =
       Unless ((s .closed ≡ false) × (s .map .«link_count» < linkLimit)) Refused12
-      (Said (record { map = withLink (s .map) (byteAt bytes 1) (byteAt bytes 2); book = s .book; closed = false }) (lineOf (0 ∷ [])) s′ said)
+      (Said (record { map = withLink (s .map) (linkIn bytes 1); book = s .book; closed = false }) (lineOf (0 ∷ [])) s′ said)
 
   pub record PlanFrame : Type 0 where
     pub answer : Planned
@@ -154,7 +150,7 @@ module _ (s : State) (bytes : List ℕ) (s′ : State) (said : List ℕ) where
   pub record PageFrame : Type 0 where
     pub answer : Paged
     pub list : List ℕ
-    pub is : PageIs (s .map) (s .book) (byteAt bytes 1) (record { place = byteAt bytes 2; entry = num3 bytes 3; ticket = num3 bytes 6 }) answerList list answer
+    pub is : PageIs (s .map) (s .book) (byteAt bytes 1) (keyIn bytes 2) answerList list answer
     pub said-so : Said (closedWith s (s .book)) (pageLines answer list) s′ said
 
   pub record FrameSays : Type 0 where

@@ -1,11 +1,16 @@
 pub mod Limits
 pub mod Map
 pub mod Rows
+pub mod RowLaws
 pub mod Plan
 pub mod Book
 pub mod Page
 pub mod Window
 pub mod Chosen
+pub mod Bytes
+pub mod ByteLaws
+pub mod Gate
+pub mod GateLaws
 pub mod Answer
 pub mod Portal
 pub mod Frames

@@ -1,5 +1,5 @@
 -- The numbers of the rules.
-use Prim.Native.Nat.{ℕ}
+use Prim.Native.Nat.{ℕ, _+_}
 
 -- "Time is whole seconds of one day, 0 to 86,400."
 abbrev pub day : ℕ
@@ -26,6 +26,10 @@ rowLimit = 1024
 
 abbrev pub ticketLimit : ℕ
 ticketLimit = 1000000
+
+-- a plan has at most as many stays as there can be free windows: "1,280"
+abbrev pub planLimit : ℕ
+planLimit = placeLimit + rowLimit
 
 -- "page size 0 or above 64"
 abbrev pub pageLimit : ℕ

@@ -14,6 +14,10 @@ use Rattle.rules.specs.Limits.{placeLimit, capacityLimit, durationLimit,
 abbrev pub noPlace : Place
 noPlace = record { capacity = 0; duration = 1 }
 
+-- a slot that holds nothing
+abbrev pub zeroPlace : Place
+zeroPlace = record { capacity = 0; duration = 0 }
+
 abbrev pub noLink : Link
 noLink = record { from = 0; to = 0 }
 

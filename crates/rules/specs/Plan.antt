@@ -7,7 +7,7 @@ use lib.ListN.{length, getD}
 use Rattle.rules.specs.declared.Row.{Row}
 use Rattle.rules.specs.Limits.{day}
 use Rattle.rules.specs.Map.{Yard}
-use Rattle.rules.specs.Rows.{covers, bit, load, crosses}
+use Rattle.rules.specs.Rows.{row, covers, bit, load, barred}
 
 pub record Stay : Type 0 where
   pub place : ℕ
@@ -54,11 +54,11 @@ pub record Permitted (Y : Yard) (rows : List Row) (start dest s : ℕ) (plan : L
   -- "load: at each second each place holds at most its capacity, booked rows and the plan's stays counted together"
   pub room : (p t : ℕ) → p < Y .places → load rows p t + held plan p t ≤ Y .cap p
   -- "exchange: where the plan goes from p to q at second t, no booked run goes from q to p at t"
-  pub exchange : (i : ℕ) → suc i < length plan → crosses rows ((stayAt plan (suc i)) .place) ((stayAt plan i) .place) ((stayAt plan i) .exit) ≡ false
+  pub exchange : (i : ℕ) → suc i < length plan → barred rows ((stayAt plan i) .place) ((stayAt plan (suc i)) .place) ((stayAt plan i) .exit) ≡ false
 
 -- "A row holds place, entry, ticket, exit and next place. On a run's last row, next is the row's own place"
 abbrev pub stayRow : ℕ → Stay → ℕ → Row
-stayRow ticket x next = record { place = x .place; entry = x .entry; ticket = ticket; exit = x .exit; next = next }
+stayRow ticket x next = row (x .place) (x .entry) ticket (x .exit) next
 
 -- a plan's rows under a ticket, in travel order
 abbrev pub runRows : ℕ → List Stay → List Row

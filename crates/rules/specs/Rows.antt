@@ -8,8 +8,11 @@ use lib.Dec.{eqb, leb, ltb}
 use Rattle.rules.specs.declared.Row.{Row}
 use Rattle.rules.specs.declared.Cursor.{Cursor}
 
+abbrev pub row : (place entry ticket exit next : ℕ) → Row
+row place entry ticket exit next = record { place = place; entry = entry; ticket = ticket; exit = exit; next = next }
+
 abbrev pub noRow : Row
-noRow = record { place = 0; entry = 0; ticket = 0; exit = 0; next = 0 }
+noRow = row 0 0 0 0 0
 
 abbrev pub rowAt : List Row → ℕ → Row
 rowAt rows i = getD rows i noRow
@@ -67,6 +70,10 @@ load (r ∷ rows) p t = bit (covers (r .place) (r .entry) (r .exit) p t) + load 
 unfoldable pub crosses : List Row → ℕ → ℕ → ℕ → Bool
 crosses [] p q t = false
 crosses (r ∷ rows) p q t = (eqb (r .place) p && (eqb (r .next) q && eqb (r .exit) t)) || crosses rows p q t
+
+-- "where the plan goes from p to q at second t, no booked run goes from q to p at t": the crossing from p to q at t is barred by one against it
+unfoldable pub barred : List Row → ℕ → ℕ → ℕ → Bool
+barred rows p q t = crosses rows q p t
 
 -- the rows that a test keeps, in their order
 abbrev pub choose : Bool → Row → List Row → List Row

@@ -7,7 +7,7 @@ use lib.ListN.{length}
 use Rattle.rules.specs.declared.Row.{Row}
 use Rattle.rules.specs.Limits.{day}
 use Rattle.rules.specs.Map.{Yard}
-use Rattle.rules.specs.Rows.{load, crosses}
+use Rattle.rules.specs.Rows.{load, barred}
 use Rattle.rules.specs.Plan.{Stay, stayAt, Permitted}
 
 -- every second of a to b-1 has a booked load below capacity
@@ -59,7 +59,7 @@ pub record Step (Y : Yard) (rows : List Row) (w v : Span) (e u : ℕ) : Type 0 w
   pub before : u ≤ w .to
   pub from : v .from ≤ u
   pub fits : u + Y .dur (v .place) ≤ v .to
-  pub clear : crosses rows (v .place) (w .place) u ≡ false
+  pub clear : barred rows (w .place) (v .place) u ≡ false
 
 -- "From a window, itself entered at its earliest entry, into another, the entry is the least second .."
 pub record Yields (Y : Yard) (rows : List Row) (w v : Span) (e u : ℕ) : Type 0 where

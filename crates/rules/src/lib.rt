@@ -1,7 +1,9 @@
 // What the barn's papers speak of: map, row, book, cursor and answers, each with its limits.
 // What they mean stands in specs/.
 ghost use mathlib.Core.Path.{_≡_};
-ghost use Rattle.rules.specs.Rows.{cursorKey, rowKey, firstKey, lessb};
+ghost use Rattle.rules.specs.Limits.{day, placeLimit, capacityLimit, durationLimit, linkLimit, rowLimit, ticketLimit, planLimit, pageLimit};
+ghost use Rattle.rules.specs.Bytes.{placeSize, linkSize, rowSize, rowLine, listSize, answerRoom};
+ghost use Rattle.rules.specs.Rows.{row, noRow, cursorKey, rowKey, firstKey, lessb};
 ghost use Rattle.rules.specs.Answer.{number, plannedNumber, plannedArrival, plannedCount, pagedNumber, pagedCount, pagedMore};
 
 pub struct Place {
@@ -14,9 +16,19 @@ pub struct Link {
     pub to: u8,
 }
 
+impl Place {
+    // "capacity(1) duration(2)"
+    pub const BYTES: usize = 3;
+}
+
+impl Link {
+    // "from(1) to(1)"
+    pub const BYTES: usize = 2;
+}
+
 pub struct Map {
-    pub places: [Place; 256],
-    pub links: [Link; 1024],
+    pub places: [Place; Map::PLACES],
+    pub links: [Link; Map::LINKS],
     pub place_count: usize,
     pub link_count: usize,
 }
@@ -42,11 +54,41 @@ pub struct Row {
 }
 
 impl Row {
+    // "place(1) entry(3) ticket(3) exit(3) next(1)"
     pub const BYTES: usize = 11;
+
+    // A row's line: two digits a byte and a line feed.
+    pub const LINE: usize = 2 * Row::BYTES + 1;
+
+    // The bytes of a list that holds every plan.
+    pub const LIST: usize = Row::BYTES * Trip::STAYS;
+
+    // The bytes of a list with room for every answer of the program.
+    pub const ANSWER: usize = Row::LINE * Trip::STAYS + 560;
+
+    // A row of these numbers.
+    pub fn new(place: u8, entry: u32, ticket: u32, exit: u32, next: u8) -> Self
+        ensures { λ r. ⌜ r ≡ row place entry ticket exit next ⌝ }
+    {
+        Row {
+            place: place,
+            entry: entry,
+            ticket: ticket,
+            exit: exit,
+            next: next,
+        }
+    }
+
+    // A slot that holds no row.
+    pub fn none() -> Self
+        ensures { λ r. ⌜ r ≡ noRow ⌝ }
+    {
+        Row::new(0, 0, 0, 0, 0)
+    }
 }
 
 pub struct Book {
-    pub rows: [Row; 1024],
+    pub rows: [Row; Book::ROWS],
     pub count: usize,
     pub next_ticket: u32,
 }
@@ -55,6 +97,9 @@ impl Book {
     pub const ROWS: usize = 1024;
 
     pub const TICKETS: u32 = 1000000;
+
+    // More rows than any book has: the count of one that cannot be read.
+    pub const UNREAD: usize = Book::ROWS + 1;
 }
 
 pub struct Cursor {
@@ -150,6 +195,11 @@ impl Refusal {
 pub struct Trip {
     pub arrival: u32,
     pub count: usize,
+}
+
+impl Trip {
+    // As many stays as there can be free windows.
+    pub const STAYS: usize = Map::PLACES + Book::ROWS;
 }
 
 pub enum Planned {
@@ -263,4 +313,48 @@ pub struct State {
     pub map: Map,
     pub book: Book,
     pub closed: bool,
+}
+
+// The limits above, which are those of the definitions.
+pub struct Limits {
+    pub day: u32,
+    pub places: usize,
+    pub capacity: u8,
+    pub duration: u32,
+    pub links: usize,
+    pub rows: usize,
+    pub tickets: u32,
+    pub stays: usize,
+    pub page: u32,
+    pub place_bytes: usize,
+    pub link_bytes: usize,
+    pub row_bytes: usize,
+    pub row_line: usize,
+    pub list: usize,
+    pub answer: usize,
+}
+
+pub fn all_limits() -> Limits
+    ensures { λ l. ⌜ (l .day ≡ day) × (l .places ≡ placeLimit) × (l .capacity ≡ capacityLimit) × (l .duration ≡ durationLimit) × (l .links ≡ linkLimit) ⌝ }
+    ensures { λ l. ⌜ (l .rows ≡ rowLimit) × (l .tickets ≡ ticketLimit) × (l .stays ≡ planLimit) × (l .page ≡ pageLimit) ⌝ }
+    ensures { λ l. ⌜ (l .«place_bytes» ≡ placeSize) × (l .«link_bytes» ≡ linkSize) × (l .«row_bytes» ≡ rowSize) ⌝ }
+    ensures { λ l. ⌜ (l .«row_line» ≡ rowLine) × (l .list ≡ listSize) × (l .answer ≡ answerRoom) ⌝ }
+{
+    Limits {
+        day: Map::DAY,
+        places: Map::PLACES,
+        capacity: Map::CAPACITY,
+        duration: Map::DURATION,
+        links: Map::LINKS,
+        rows: Book::ROWS,
+        tickets: Book::TICKETS,
+        stays: Trip::STAYS,
+        page: Cursor::PAGE,
+        place_bytes: Place::BYTES,
+        link_bytes: Link::BYTES,
+        row_bytes: Row::BYTES,
+        row_line: Row::LINE,
+        list: Row::LIST,
+        answer: Row::ANSWER,
+    }
 }

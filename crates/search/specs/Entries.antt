@@ -8,15 +8,15 @@ use native.Mathlib.Omega.{arith}
 use Rattle.laws.specs.Order.{lt-or-ge}
 use Rattle.laws.specs.Tests.{not-both}
 use Rattle.rules.specs.declared.Row.{Row}
-use Rattle.rules.specs.Rows.{crosses}
+use Rattle.rules.specs.Rows.{barred}
 
--- the least second of lo to hi at which no row goes from q to p
+-- the least second of lo to hi at which the crossing from p to q is not barred
 pub record FirstClear (rows : List Row) (q p lo hi r : ℕ) : Type 0 where
   pub top : r ≤ 86401
   pub from : r < 86401 → lo ≤ r
   pub to : r < 86401 → r ≤ hi
-  pub clear : r < 86401 → crosses rows q p r ≡ false
-  pub low : (u : ℕ) → lo ≤ u → u ≤ hi → crosses rows q p u ≡ false → r ≤ u
+  pub clear : r < 86401 → barred rows p q r ≡ false
+  pub low : (u : ℕ) → lo ≤ u → u ≤ hi → barred rows p q u ≡ false → r ≤ u
 
 pub first-clear-same : {rows : List Row} {q p lo hi r r′ : ℕ} → hi ≤ 86400 → FirstClear rows q p lo hi r → FirstClear rows q p lo hi r′ → r ≡ r′
 first-clear-same {r = r} {r′ = r′} h a b =
@@ -28,19 +28,19 @@ first-clear-same {r = r} {r′ = r′} h a b =
     (λ (d : 86401 ≤ r′). omega (arith, a .top, b .top)) (lt-or-ge r′ 86401))
     (lt-or-ge r 86401)
 
--- ---- the loop over seconds: nothing from lo to t - 1 is clear
+-- ---- the loop over seconds: each from lo to t - 1 is barred
 
 pub record Barred (rows : List Row) (q p lo t : ℕ) : Type 0 where
   pub from : lo ≤ t
-  pub all : (u : ℕ) → lo ≤ u → u < t → crosses rows q p u ≡ true
+  pub all : (u : ℕ) → lo ≤ u → u < t → barred rows p q u ≡ true
 
 pub barred-start : (rows : List Row) (q p lo : ℕ) → Barred rows q p lo lo
 barred-start rows q p lo = record { from = omega arith; all = λ u a b. absurd (omega arith) }
 
-pub barred-next : {rows : List Row} {q p lo t : ℕ} → Barred rows q p lo t → crosses rows q p t ≡ true → Barred rows q p lo (t + 1)
+pub barred-next : {rows : List Row} {q p lo t : ℕ} → Barred rows q p lo t → barred rows p q t ≡ true → Barred rows q p lo (t + 1)
 barred-next {rows} {q} {p} {lo} {t} B h = record {
   from = omega (arith, B .from);
-  all = λ u a b. ⊎-elim (λ (c : u < t). B .all u a c) (λ (c : t ≤ u). let e : t ≡ u = omega arith in subst (λ x. crosses rows q p x ≡ true) e h) (lt-or-ge u t);
+  all = λ u a b. ⊎-elim (λ (c : u < t). B .all u a c) (λ (c : t ≤ u). let e : t ≡ u = omega arith in subst (λ x. barred rows p q x ≡ true) e h) (lt-or-ge u t);
 }
 
 pub barred-end : {rows : List Row} {q p lo hi t : ℕ} → Barred rows q p lo t → hi < t → FirstClear rows q p lo hi 86401
@@ -52,7 +52,7 @@ barred-end B h = record {
   low = λ u a b c. absurd (not-both (B .all u a (omega arith)) c);
 }
 
-pub barred-found : {rows : List Row} {q p lo hi t : ℕ} → hi ≤ 86400 → Barred rows q p lo t → t ≤ hi → crosses rows q p t ≡ false → FirstClear rows q p lo hi t
+pub barred-found : {rows : List Row} {q p lo hi t : ℕ} → hi ≤ 86400 → Barred rows q p lo t → t ≤ hi → barred rows p q t ≡ false → FirstClear rows q p lo hi t
 barred-found {t = t} h B k c = record {
   top = omega arith;
   from = λ _. B .from;
@@ -68,7 +68,7 @@ pub record Allowed (rows : List Row) (q p soonest leave d from to u : ℕ) : Typ
   pub left : u ≤ leave
   pub begun : from ≤ u
   pub fits : u + d ≤ to
-  pub clear : crosses rows q p u ≡ false
+  pub clear : barred rows p q u ≡ false
 
 pub record IsEntry (rows : List Row) (q p soonest leave d from to r : ℕ) : Type 0 where
   pub top : r ≤ 86401

@@ -1,6 +1,6 @@
 -- What a cancellation gives back and what it keeps: the load of the ticket's rows is gone and no other, what was permitted stays permitted, the run
 -- that was cancelled is permitted again, and the next ticket never falls.
-use Prim.Native.Nat.{ℕ, zero, suc, _+_, _-_, _≤_, _<_}
+use Prim.Native.Nat.{ℕ, suc, _+_, _-_, _≤_, _<_}
 use mathlib.Core.Path.{_≡_, refl, sym, ap, ap₂, subst, _∙_}
 use mathlib.Core.Logic.{⊎-elim}
 use mathlib.Core.Bool.{Bool, true, false, not}
@@ -15,17 +15,19 @@ use Rattle.rules.specs.declared.Row.{Row}
 use Rattle.rules.specs.declared.Booking.{Booking}
 use Rattle.rules.specs.declared.Cancelling.{Cancelling}
 use Rattle.rules.specs.Map.{Yard}
-use Rattle.rules.specs.Rows.{Key, rowKey, Less, Rising, load, crosses, choose, keep, insertAll}
-use Rattle.rules.specs.Plan.{Stay, stayAt, Permitted, stayRow, runRows}
+use Rattle.rules.specs.Rows.{Key, rowKey, Less, Rising, load, choose, keep, insertAll}
+use Rattle.rules.specs.RowLaws.{barred-fewer}
+use Rattle.rules.specs.Plan.{Stay, stayAt, Permitted, runRows}
 use Rattle.rules.specs.Book.{WellFormed, Whole, ofTicket, otherTicket}
+use Rattle.rules.specs.GateLaws.{unless, checked}
 use Rattle.rules.specs.Answer.{BookIs, BookingIs, CancelIs, CancellingIs}
-use Rattle.keeping.specs.Calls.{unless}
 use Rattle.keeping.specs.OrderLaws.{less-trans, less-irrefl}
 use Rattle.keeping.specs.Chains.{chain-below, rising-tail, rising-chain}
-use Rattle.keeping.specs.Changes.{keep-rising, mem-all, all-old, all-new, AllNew, all-rising}
+use Rattle.keeping.specs.Changes.{mem-keep, keep-rising, mem-all, all-old, all-new, AllNew, all-rising}
 use Rattle.keeping.specs.Runs.{run-ticket, run-load, run-apart}
 use Rattle.keeping.specs.Keeping.{cancel-rows, rows-cancel}
-use Rattle.keeping.specs.Loads.{load-all, load-keep, crosses-keep}
+use Rattle.keeping.specs.Loads.{load-all, load-keep}
+use Rattle.keeping.specs.Unbarred.{clear-fewer, run-clear}
 use Rattle.lanes.specs.Yards.{YardRules}
 use Rattle.walks.specs.Walk.{Others}
 use Rattle.walks.specs.Walk.Others.{rests, plans, books, cancels, looks}
@@ -49,7 +51,7 @@ fewer-permit {rows} {plan} f P = record {
   first-entry = P .first-entry;
   last-place = P .last-place;
   room = λ p t h. omega (arith, load-keep p t f rows, P .room p t h);
-  exchange = λ i h. crosses-keep ((stayAt plan (suc i)) .place) ((stayAt plan i) .place) ((stayAt plan i) .exit) f rows (P .exchange i h);
+  exchange = λ i h. barred-fewer ((stayAt plan i) .place) ((stayAt plan (suc i)) .place) ((stayAt plan i) .exit) (λ r m. mem-keep f r rows m .0) (P .exchange i h);
 }
 
 -- rows in key order are given by what they are
@@ -75,15 +77,6 @@ rising-same (x ∷ a) (y ∷ b) R S f g = ap₂ (λ (z : Row) (l : List Row). z 
 
     g′ : (z : Row) → List·Memᴰ z b → List·Memᴰ z a
     g′ z m = ⊎-elim (λ (e : z ≡ x). absurd (less-irrefl (subst (λ (w : Row). Less (rowKey y) (rowKey w)) (e ∙ first) (over z m)))) (λ n. n) (List·Memᴰ·cases-cons (g z (List·Memᴰ·tail m)))
-
--- what holds of the crossings of a plan's rows holds of its stays
-run-meets : (k : ℕ) (rows : List Row) (plan : List Stay) → ((i : ℕ) → suc i < length plan → (stayAt plan (suc i)) .place ≡ (stayAt plan i) .place → ⊥)
-    → ((r : Row) → List·Memᴰ r (runRows k plan) → (r .next ≡ r .place → ⊥) → crosses rows (r .next) (r .place) (r .exit) ≡ false)
-    → (i : ℕ) → suc i < length plan → crosses rows ((stayAt plan (suc i)) .place) ((stayAt plan i) .place) ((stayAt plan i) .exit) ≡ false
-run-meets k rows [] a f i h = absurd (omega arith)
-run-meets k rows (x ∷ []) a f i h = absurd (omega arith)
-run-meets k rows (x ∷ (y ∷ ys)) a f zero h = f (stayRow k x (y .place)) (List·Memᴰ·head refl) (a 0 h)
-run-meets k rows (x ∷ (y ∷ ys)) a f (suc i) h = run-meets k rows (y ∷ ys) (λ j l. a (suc j) (omega arith)) (λ r m. f r (List·Memᴰ·tail m)) i (omega arith)
 
 -- a plan for its own first place, first entry and last place
 abbrev pub PermittedRun : Yard → List Row → List Stay → Type 0
@@ -115,14 +108,15 @@ module _ {Y : Yard} {rows : List Row} {t : ℕ} (rules : YardRules Y) (W : WellF
     first-entry = refl;
     last-place = λ i e. let n : i ≡ length (o .plan) - 1 = omega arith in ap (λ (j : ℕ). (stayAt (o .plan) j) .place) n;
     room = λ p x h. omega (arith, load-all p x new rest, run-load k (o .plan) p x, ap (λ (l : List Row). load l p x) joined, W .room p x h);
-    exchange = run-meets k rest (o .plan) moves (λ r m ne. crosses-keep (r .next) (r .place) (r .exit) (otherTicket k) rows (W .exchange r (o .booked r m) ne));
+    exchange = run-clear k rest (o .plan) moves (clear-fewer (λ r m. cancel-rows k rows r m .0) (o .booked) (W .exchange));
   }
     where
       moves : (i : ℕ) → suc i < length (o .plan) → (stayAt (o .plan) (suc i)) .place ≡ (stayAt (o .plan) i) .place → ⊥
       moves i h e = not-both (subst (λ (q : ℕ). Y .link ((stayAt (o .plan) i) .place) q ≡ true) e (o .is-plan .goes i h)) (rules .no-loop ((stayAt (o .plan) i) .place))
 
 pub booking-next : {m : Map} {b : Book} {start dest s : ℕ} {r : Booking} → BookIs m b start dest s r → b .«next_ticket» ≤ r .book .«next_ticket»
-booking-next {b} {r} = unless same (λ M. unless same (λ B. unless same (λ on. unless same (λ d. unless same (λ t. unless same (λ some c. unless same (λ fits x. up x refl) (c .2)))))))
+booking-next {b} {r} =
+    checked (λ n _. same) (λ M B. unless same (λ on. unless same (λ d. unless same (λ t. unless same (λ some c. unless same (λ fits x. up x refl) (c .2))))))
   where
     same : {n k a c : ℕ} → BookingIs n k a c b r → b .«next_ticket» ≤ r .book .«next_ticket»
     same x = omega (arith, ap (λ (z : Book). z .«next_ticket») (x .holds))
@@ -131,7 +125,7 @@ booking-next {b} {r} = unless same (λ M. unless same (λ B. unless same (λ on.
     up x e = omega (arith, e, ap (λ (z : Book). z .«next_ticket») (x .holds))
 
 pub cancelling-next : {m : Map} {b : Book} {ticket : ℕ} {r : Cancelling} → CancelIs m b ticket r → r .book .«next_ticket» ≡ b .«next_ticket»
-cancelling-next {b} {r} = unless same (λ M. unless same (λ B. unless same (λ known x. ap (λ (z : Book). z .«next_ticket») (x .holds))))
+cancelling-next {b} {r} = checked (λ n _. same) (λ M B. unless same (λ known x. ap (λ (z : Book). z .«next_ticket») (x .holds)))
   where
     same : {n c : ℕ} → CancellingIs n c b r → r .book .«next_ticket» ≡ b .«next_ticket»
     same x = ap (λ (z : Book). z .«next_ticket») (x .holds)

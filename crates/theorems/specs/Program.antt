@@ -1,7 +1,7 @@
 -- What `lanebook` keeps from line to line: the book is well formed on the map so far, so that no line is ever answered with 2.
 use Prim.Native.Nat.{ℕ, zero, suc, _%_}
 use mathlib.Core.Path.{_≡_, refl, sym, ap, subst, _∙_}
-use mathlib.Core.Logic.{inl, inr, ⊎-elim}
+use mathlib.Core.Logic.{⊎-elim}
 use mathlib.Core.Bool.{false}
 use mathlib.Core.List.{List, [], _∷_, _++_, append-nil}
 use native.Mathlib.Omega.{arith}
@@ -18,11 +18,12 @@ use Rattle.rules.specs.declared.Cancelling.{Cancelling}
 use Rattle.rules.specs.Map.{mapYard}
 use Rattle.rules.specs.Rows.{Key}
 use Rattle.rules.specs.Book.{GoodBook, bookOf}
-use Rattle.rules.specs.Answer.{Unless, PlanIs, BookIs, CancelIs, PageIs, plannedNumber, bookedNumber, cancelledNumber, pagedNumber}
-use Rattle.rules.specs.Portal.{byteAt}
+use Rattle.rules.specs.Bytes.{byteAt}
+use Rattle.rules.specs.GateLaws.{unless, checked-good}
+use Rattle.rules.specs.Answer.{PlanIs, BookIs, CancelIs, PageIs, plannedNumber, bookedNumber, cancelledNumber, pagedNumber}
 use Rattle.rules.specs.Frames.{digit, hexOf, lineOf, after00, begins, closedWith, Frame, Said, PlaceFrame, LinkFrame, PlanFrame, BookFrame, CancelFrame, PageFrame, FrameSays, LineSays, LinesSay}
 use Rattle.rules.specs.Frames.LinesSay.{none, more}
-use Rattle.keeping.specs.Calls.{unless, empty-good, booking-good, cancelling-good}
+use Rattle.keeping.specs.Calls.{empty-good, booking-good, cancelling-good}
 use Rattle.unique.specs.Hex.{digit-injective}
 use Rattle.unique.specs.Line.{frame-or-not, no-kind}
 
@@ -81,25 +82,25 @@ lines-sound (more p r) S = lines-sound r (line-sound S p)
 
 -- ---- 2 never comes
 
-known : {ok bad rest : Type 0} → ok → Unless ok bad rest → rest
-known h (inl x) = absurd (x .0 h)
-known h (inr y) = y .1
-
 module _ {m : Map} {b : Book} (B : GoodBook (mapYard m) b) where
   plan-not-2 : {start dest s : ℕ} {was out : List ℕ} {r : Planned} → PlanIs m b start dest s was out r → plannedNumber r % 16 ≡ 2 → ⊥
-  plan-not-2 P e = unless (λ x. omega (arith, x .code)) (λ M y. unless (λ x. omega (arith, x .code)) (λ on. unless (λ x. omega (arith, x .code))
-      (λ d. unless (λ x. omega (arith, x .code)) (λ some c. unless (λ x. omega (arith, x .code)) (λ fits x. omega (arith, x .code)) (c .2)))) (known B y)) P
+  plan-not-2 P e =
+      checked-good B (λ x. omega (arith, x .code)) (λ M. unless (λ x. omega (arith, x .code)) (λ on. unless (λ x. omega (arith, x .code))
+      (λ d. unless (λ x. omega (arith, x .code)) (λ some c. unless (λ x. omega (arith, x .code)) (λ fits x. omega (arith, x .code)) (c .2))))) P
 
   book-not-2 : {start dest s : ℕ} {r : Booking} → BookIs m b start dest s r → bookedNumber (r .answer) % 16 ≡ 2 → ⊥
-  book-not-2 P e = unless (λ x. omega (arith, x .code)) (λ M y. unless (λ x. omega (arith, x .code)) (λ on. unless (λ x. omega (arith, x .code))
-      (λ d. unless (λ x. omega (arith, x .code)) (λ t. unless (λ x. omega (arith, x .code)) (λ some c. unless (λ x. omega (arith, x .code)) (λ fits x. omega (arith, x .code)) (c .2))))) (known B y)) P
+  book-not-2 P e =
+      checked-good B (λ x. omega (arith, x .code)) (λ M. unless (λ x. omega (arith, x .code)) (λ on. unless (λ x. omega (arith, x .code))
+      (λ d. unless (λ x. omega (arith, x .code)) (λ t. unless (λ x. omega (arith, x .code))
+      (λ some c. unless (λ x. omega (arith, x .code)) (λ fits x. omega (arith, x .code)) (c .2)))))) P
 
   cancel-not-2 : {ticket : ℕ} {r : Cancelling} → CancelIs m b ticket r → cancelledNumber (r .answer) % 16 ≡ 2 → ⊥
-  cancel-not-2 P e = unless (λ x. omega (arith, x .code)) (λ M y. unless (λ x. omega (arith, x .code)) (λ k x. omega (arith, x .code)) (known B y)) P
+  cancel-not-2 P e = checked-good B (λ x. omega (arith, x .code)) (λ M. unless (λ x. omega (arith, x .code)) (λ k x. omega (arith, x .code))) P
 
   page-not-2 : {size : ℕ} {k : Key} {was out : List ℕ} {r : Paged} → PageIs m b size k was out r → pagedNumber r % 16 ≡ 2 → ⊥
-  page-not-2 P e = unless (λ x. omega (arith, x .code)) (λ M y. unless (λ x. omega (arith, x .code)) (λ sized. unless (λ x. omega (arith, x .code))
-      (λ fits. unless (λ x. omega (arith, x .code)) (λ room x. omega (arith, x .code)))) (known B y)) P
+  page-not-2 P e =
+      checked-good B (λ x. omega (arith, x .code)) (λ M. unless (λ x. omega (arith, x .code)) (λ sized. unless (λ x. omega (arith, x .code))
+      (λ fits. unless (λ x. omega (arith, x .code)) (λ room x. omega (arith, x .code))))) P
 
 -- the second digit of an answer is its number's
 number-digit : (n : ℕ) (answer rest : List ℕ) → getD (lineOf (after00 n answer) ++ rest) 1 0 ≡ digit (n % 16)

@@ -24,10 +24,13 @@ use Rattle.rules.specs.Plan.{Stay, Permitted, arrival, runRows}
 use Rattle.rules.specs.Book.{GoodBook, Whole, rowsOf, bookOf, ofTicket, otherTicket}
 use Rattle.rules.specs.Page.{pageRows, pageMore, lastKey}
 use Rattle.rules.specs.Chosen.{Chosen}
-use Rattle.rules.specs.Answer.{records, written, over, PlanIs, PlanRecords, Planning, plannedNumber, plannedArrival, plannedCount, BookIs, BookingIs, bookedNumber, bookedTicket, bookedArrival, bookedCount, CancelIs, CancellingIs, Known, cancelledNumber, PageIs, PageRecords, PagingIs, pagedNumber}
+use Rattle.rules.specs.Bytes.{records, written}
+use Rattle.rules.specs.Gate.{papersOf}
+use Rattle.rules.specs.GateLaws.{unless, past, checked, passed}
+use Rattle.rules.specs.Answer.{over, PlanIs, PlanRecords, Planning, plannedNumber, plannedArrival, plannedCount, BookIs, BookingIs, bookedNumber, bookedTicket, bookedArrival, bookedCount, CancelIs, CancellingIs, Known, cancelledNumber, PageIs, PageRecords, PagingIs, pagedNumber}
 use Rattle.lanes.specs.Yards.{yard-rules}
 use Rattle.lanes.specs.Chosen.{chosen-best}
-use Rattle.keeping.specs.Calls.{unless, empty-good, booking-good, cancelling-good}
+use Rattle.keeping.specs.Calls.{empty-good, booking-good, cancelling-good}
 use Rattle.keeping.specs.Books.{rows-of-book}
 use Rattle.keeping.specs.Keeping.{row-ranges, book-rows, rows-book, cancel-rows, rows-cancel}
 use Rattle.walks.specs.Walk.{Others, Walk, Walked}
@@ -59,7 +62,8 @@ pub record Given (m : Map) (b : Book) (start dest s : ℕ) (was out : List ℕ) 
 module _ {m : Map} {b : Book} {start dest s : ℕ} {was out : List ℕ} {r : Planned} (P : PlanIs m b start dest s was out r) where
   pub plan-is-best : plannedNumber r ≡ 0 → Given m b start dest s was out r
   plan-is-best z =
-      unless wrong (λ M. unless wrong (λ B. unless wrong (λ on. unless wrong (λ d. unless wrong (λ some c. unless wrong (λ fits x. given M B on (c .0) (c .1) x) (c .2)))))) P
+      checked (λ n h x. absurd (omega (arith, h .some, x .code))) (λ M B. unless wrong (λ on. unless wrong (λ d. unless wrong (λ some c.
+      unless wrong (λ fits x. given M B on (c .0) (c .1) x) (c .2))))) P
     where
       wrong : {n a c : ℕ} {l : List ℕ} → Planning (suc n) a c l out r → Given m b start dest s was out r
       wrong x = absurd (omega (arith, x .code))
@@ -73,19 +77,17 @@ module _ {m : Map} {b : Book} {start dest s : ℕ} {was out : List ℕ} {r : Pla
   -- "'no plan' is given exactly when none exists by the day's end"
   pub no-plan-exists : plannedNumber r ≡ 5 → (plan : List Stay) → Permitted (mapYard m) (rowsOf b) start dest s plan → ⊥
   no-plan-exists z plan p =
-      ⊎-elim (λ x. omega (arith, x .1 .code)) (λ x. ⊎-elim (λ y. omega (arith, y .1 .code)) (λ y. ⊎-elim (λ u. omega (arith, u .1 .code)) (λ u. ⊎-elim (λ v. omega (arith, v .1 .code))
-      (λ v. ⊎-elim (λ w. w .0 (plan, p)) (λ w. ⊎-elim (λ q. omega (arith, q .1 .code)) (λ q. omega (arith, q .1 .code)) (w .1 .2)) (v .1)) (u .1)) (y .1)) (x .1)) P
+      checked (λ n h x. h .apart (omega (arith, x .code)) (omega (arith, x .code))) (λ M B. unless (λ u. omega (arith, u .code)) (λ on. unless (λ v. omega (arith, v .code))
+      (λ d w. ⊎-elim (λ y. y .0 (plan, p)) (λ y. unless (λ q. omega (arith, q .code)) (λ fits q. omega (arith, q .code)) (y .1 .2)) w))) P
 
   pub none-is-refused : GoodMap m → GoodBook (mapYard m) b → (start < mapYard m .places) × (dest < mapYard m .places) → s ≤ day
       → ((plan : List Stay) → Permitted (mapYard m) (rowsOf b) start dest s plan → ⊥) → plannedNumber r ≡ 5
-  none-is-refused M B on d f =
-      ⊎-elim (λ x. absurd (x .0 M)) (λ x. ⊎-elim (λ y. absurd (y .0 B)) (λ y. ⊎-elim (λ u. absurd (u .0 on)) (λ u. ⊎-elim (λ v. absurd (v .0 d))
-      (λ v. ⊎-elim (λ w. w .1 .code) (λ w. absurd (f (w .0 .0) (w .0 .1))) (v .1)) (u .1)) (y .1)) (x .1)) P
+  none-is-refused M B on d f = unless (λ x. x .code) (λ some _. absurd (f (some .0) (some .1))) (past d (past on (passed M B P)))
 
   -- demand 1: "a refusal changes neither the book nor the caller's answer buffer"
   pub refusal-leaves-the-list : 0 < plannedNumber r → out ≡ was
   refusal-leaves-the-list z =
-      unless left (λ M. unless left (λ B. unless left (λ on. unless left (λ d. unless left (λ some c. unless left (λ fits x. absurd (omega (arith, x .code))) (c .2)))))) P
+      checked (λ n _. left) (λ M B. unless left (λ on. unless left (λ d. unless left (λ some c. unless left (λ fits x. absurd (omega (arith, x .code))) (c .2))))) P
     where
       left : {n a c : ℕ} → Planning n a c was out r → out ≡ was
       left x = x .holds
@@ -105,7 +107,9 @@ pub record Added (m : Map) (b : Book) (start dest s : ℕ) (r : Booking) : Type 
 
 module _ {m : Map} {b : Book} {start dest s : ℕ} {r : Booking} (P : BookIs m b start dest s r) where
   pub booking-adds : bookedNumber (r .answer) ≡ 0 → Added m b start dest s r
-  booking-adds z = unless wrong (λ M. unless wrong (λ B. unless wrong (λ on. unless wrong (λ d. unless wrong (λ t. unless wrong (λ some c. unless wrong (λ fits x. added (c .0) (c .1) x) (c .2))))))) P
+  booking-adds z =
+      checked (λ n h x. absurd (omega (arith, h .some, x .code))) (λ M B. unless wrong (λ on. unless wrong (λ d. unless wrong (λ t. unless wrong (λ some c.
+      unless wrong (λ fits x. added (c .0) (c .1) x) (c .2)))))) P
     where
       wrong : {n k a c : ℕ} {l : Book} → BookingIs (suc n) k a c l r → Added m b start dest s r
       wrong x = absurd (omega (arith, x .code))
@@ -130,7 +134,8 @@ module _ {m : Map} {b : Book} {start dest s : ℕ} {r : Booking} (P : BookIs m b
 
   pub refused-booking-changes-nothing : 0 < bookedNumber (r .answer) → r .book ≡ b
   refused-booking-changes-nothing z =
-      unless left (λ M. unless left (λ B. unless left (λ on. unless left (λ d. unless left (λ t. unless left (λ some c. unless left (λ fits x. absurd (omega (arith, x .code))) (c .2))))))) P
+      checked (λ n _. left) (λ M B. unless left (λ on. unless left (λ d. unless left (λ t. unless left (λ some c.
+      unless left (λ fits x. absurd (omega (arith, x .code))) (c .2)))))) P
     where
       left : {n k a c : ℕ} → BookingIs n k a c b r → r .book ≡ b
       left x = x .holds
@@ -144,7 +149,7 @@ pub record Taken (b : Book) (ticket : ℕ) (r : Cancelling) : Type 0 where
 
 module _ {m : Map} {b : Book} {ticket : ℕ} {r : Cancelling} (P : CancelIs m b ticket r) where
   pub cancelling-removes : cancelledNumber (r .answer) ≡ 0 → Taken b ticket r
-  cancelling-removes z = unless wrong (λ M. unless wrong (λ B. unless wrong (λ known x. taken x))) P
+  cancelling-removes z = checked (λ n h x. absurd (omega (arith, h .some, x .code))) (λ M B. unless wrong (λ known x. taken x)) P
     where
       wrong : {n c : ℕ} {l : Book} → CancellingIs (suc n) c l r → Taken b ticket r
       wrong x = absurd (omega (arith, x .code))
@@ -168,7 +173,7 @@ pub record Freed (m : Map) (b : Book) (ticket : ℕ) (r : Cancelling) : Type 0 w
 
 module _ {m : Map} {b : Book} {ticket : ℕ} {r : Cancelling} (P : CancelIs m b ticket r) where
   pub the-room-is-free-again : cancelledNumber (r .answer) ≡ 0 → Freed m b ticket r
-  the-room-is-free-again z = unless wrong (λ M. unless wrong (λ B. unless wrong (λ known x. freed M B known x))) P
+  the-room-is-free-again z = checked (λ n h x. absurd (omega (arith, h .some, x .code))) (λ M B. unless wrong (λ known x. freed M B known x)) P
     where
       wrong : {n c : ℕ} {l : Book} → CancellingIs (suc n) c l r → Freed m b ticket r
       wrong x = absurd (omega (arith, x .code))
@@ -189,7 +194,8 @@ module _ {m : Map} {b : Book} {ticket : ℕ} {r : Cancelling} (P : CancelIs m b 
   pub a-cancelled-ticket-is-never-issued-again : cancelledNumber (r .answer) ≡ 0 → {c : Book} → Others m (r .book) c → {start dest s : ℕ} {later : Booking} → BookIs m c start dest s later
       → bookedNumber (later .answer) ≡ 0 → bookedTicket (later .answer) ≡ ticket → ⊥
   a-cancelled-ticket-is-never-issued-again z {c} o L done e =
-      unless wrong (λ M. unless wrong (λ B. unless wrong (λ known x. omega (arith, row-ranges (B .formed) (known .row) (known .booked) .ticket-to, known .has, cancelling-next P, others-next o, booking-adds L done .issues)))) P
+      checked (λ n h x. omega (arith, h .some, x .code)) (λ M B. unless wrong (λ known x.
+      omega (arith, row-ranges (B .formed) (known .row) (known .booked) .ticket-to, known .has, cancelling-next P, others-next o, booking-adds L done .issues))) P
     where
       wrong : {n c : ℕ} {l : Book} → CancellingIs (suc n) c l r → ⊥
       wrong x = omega (arith, x .code)
@@ -198,7 +204,8 @@ module _ {m : Map} {b : Book} {ticket : ℕ} {r : Cancelling} (P : CancelIs m b 
 
 pub page-shows : {m : Map} {b : Book} {size : ℕ} {k : Key} {was out : List ℕ} {r : Paged} → PageIs m b size k was out r → pagedNumber r ≡ 0
     → PagingIs 0 (length (pageRows size k (rowsOf b))) (pageMore size k (rowsOf b)) (lastKey k (pageRows size k (rowsOf b))) (written (pageRows size k (rowsOf b)) was) out r
-page-shows {m} {b} {size} {k} {was} {out} {r} P z = unless wrong (λ M. unless wrong (λ B. unless wrong (λ sized. unless wrong (λ fits. unless wrong (λ room x. x))))) P
+page-shows {m} {b} {size} {k} {was} {out} {r} P z =
+    checked (λ n h x. absurd (omega (arith, h .some, x .code))) (λ M B. unless wrong (λ sized. unless wrong (λ fits. unless wrong (λ room x. x)))) P
   where
     wrong : {n c : ℕ} {more : Bool} {j : Key} {l : List ℕ} → PagingIs (suc n) c more j l out r
         → PagingIs 0 (length (pageRows size k (rowsOf b))) (pageMore size k (rowsOf b)) (lastKey k (pageRows size k (rowsOf b))) (written (pageRows size k (rowsOf b)) was) out r
@@ -235,7 +242,7 @@ every-walk-is-true = walked
 -- ---- "Prove that no second answer satisfies it"
 
 pub one-plan : {m : Map} {b : Book} {start dest s : ℕ} {was out out′ : List ℕ} {r r′ : Planned} → PlanIs m b start dest s was out r → PlanIs m b start dest s was out′ r′ → (r ≡ r′) × (out ≡ out′)
-one-plan {m} {b} {start} {dest} {s} {was} {out} {out′} {r} {r′} = no-second-plan (GoodMap m) (GoodBook (mapYard m) b) (records was) (λ l. written l was) (mapYard m) (rowsOf b) start dest s was out out′ r r′ (λ M. yard-rules (M .rules) .long)
+one-plan {m} {b} {start} {dest} {s} {was} {out} {out′} {r} {r′} = no-second-plan (papersOf m b) (records was) (λ l. written l was) start dest s was out out′ r r′ (λ M. yard-rules (M .rules) .long)
 
 pub one-booking : {m : Map} {b : Book} {start dest s : ℕ} {r r′ : Booking} → BookIs m b start dest s r → BookIs m b start dest s r′ → r ≡ r′
 one-booking {m} {b} {start} {dest} {s} {r} {r′} = no-second-booking m b start dest s r r′
@@ -244,14 +251,14 @@ pub one-cancellation : {m : Map} {b : Book} {ticket : ℕ} {r r′ : Cancelling}
 one-cancellation {m} {b} {ticket} {r} {r′} = no-second-cancelling m b ticket r r′
 
 pub one-page : {m : Map} {b : Book} {size : ℕ} {k : Key} {was out out′ : List ℕ} {r r′ : Paged} → PageIs m b size k was out r → PageIs m b size k was out′ r′ → (r ≡ r′) × (out ≡ out′)
-one-page {m} {b} {size} {k} {was} {out} {out′} {r} {r′} = no-second-page (GoodMap m) (GoodBook (mapYard m) b) (records was) (λ l. written l was) (mapYard m) (rowsOf b) size k was out out′ r r′
+one-page {m} {b} {size} {k} {was} {out} {out′} {r} {r′} = no-second-page (papersOf m b) (records was) (λ l. written l was) size k was out out′ r r′
 
 -- the caller's list as row records
 pub one-plan-in-records : {m : Map} {b : Book} {start dest s : ℕ} {was out out′ : List Row} {r r′ : Planned} → PlanRecords m b start dest s was out r → PlanRecords m b start dest s was out′ r′ → (r ≡ r′) × (out ≡ out′)
-one-plan-in-records {m} {b} {start} {dest} {s} {was} {out} {out′} {r} {r′} = no-second-plan (GoodMap m) (GoodBook (mapYard m) b) (length was) (over was) (mapYard m) (rowsOf b) start dest s was out out′ r r′ (λ M. yard-rules (M .rules) .long)
+one-plan-in-records {m} {b} {start} {dest} {s} {was} {out} {out′} {r} {r′} = no-second-plan (papersOf m b) (length was) (over was) start dest s was out out′ r r′ (λ M. yard-rules (M .rules) .long)
 
 pub one-page-in-records : {m : Map} {b : Book} {size : ℕ} {k : Key} {was out out′ : List Row} {r r′ : Paged} → PageRecords m b size k was out r → PageRecords m b size k was out′ r′ → (r ≡ r′) × (out ≡ out′)
-one-page-in-records {m} {b} {size} {k} {was} {out} {out′} {r} {r′} = no-second-page (GoodMap m) (GoodBook (mapYard m) b) (length was) (over was) (mapYard m) (rowsOf b) size k was out out′ r r′
+one-page-in-records {m} {b} {size} {k} {was} {out} {out′} {r} {r′} = no-second-page (papersOf m b) (length was) (over was) size k was out out′ r r′
 
 pub one-portal-plan : {map book : List ℕ} {start dest s : ℕ} {was out out′ : List ℕ} {r r′ : ℕ} → PortalPlan map book start dest s was out r → PortalPlan map book start dest s was out′ r′ → (r ≡ r′) × (out ≡ out′)
 one-portal-plan {map} {book} {start} {dest} {s} {was} {out} {out′} {r} {r′} = no-second-portal-plan map book start dest s was out out′ r r′

@@ -7,7 +7,7 @@ use native.Mathlib.Omega.{arith}
 use lib.ListN.{length, getD}
 use borrow.Author.Tests.{lt-ltb, le-ltb}
 use Rattle.laws.specs.Order.{lt-or-ge}
-use Rattle.rules.specs.Portal.{byteAt}
+use Rattle.rules.specs.Bytes.{byteAt}
 use Rattle.rules.specs.Frames.{digit, hexOf}
 
 pub digit-low : (x : ℕ) → x < 10 → digit x ≡ 48 + x

@@ -9,15 +9,14 @@ use lib.ListN.{length}
 use borrow.Author.Tests.{ne-eqb}
 use Rattle.laws.specs.Order.{lt-or-ge, eq-or-ne}
 use Rattle.rules.specs.declared.State.{State}
-use Rattle.rules.specs.Map.{GoodMap, mapYard}
-use Rattle.rules.specs.Book.{GoodBook, rowsOf}
-use Rattle.rules.specs.Answer.{records, written}
-use Rattle.rules.specs.Portal.{byteAt, num3}
+use Rattle.rules.specs.Bytes.{byteAt, num3, keyIn, records, written}
+use Rattle.rules.specs.Gate.{papersOf}
+use Rattle.rules.specs.GateLaws.{both}
 use Rattle.rules.specs.Frames.{digit, hexOf, frameLength, answerList, planLines, bookLines, cancelLines, pageLines, closedWith, Frame, Said, PlanFrame, BookFrame, CancelFrame, PageFrame, FrameSays, LineSays, LinesSay}
 use Rattle.rules.specs.Frames.LinesSay.{none, more}
 use Rattle.lanes.specs.Yards.{yard-rules}
 use Rattle.unique.specs.Hex.{Value, value-low, value-high, value-none, AreBytes, hex-length, hex-injective}
-use Rattle.unique.specs.Unique.{both, no-second-plan, no-second-booking, no-second-cancelling, no-second-page}
+use Rattle.unique.specs.Unique.{no-second-plan, no-second-booking, no-second-cancelling, no-second-page}
 
 -- ---- a line is a frame or it is not
 
@@ -132,7 +131,7 @@ module _ (s : State) (bytes : List ℕ) (s₁ s₂ : State) (said₁ said₂ : L
 
   plan-frame-same : PlanFrame s bytes s₁ said₁ → PlanFrame s bytes s₂ said₂ → Same
   plan-frame-same p q =
-      let e = no-second-plan (GoodMap (s .map)) (GoodBook (mapYard (s .map)) (s .book)) (records answerList) (λ l. written l answerList) (mapYard (s .map)) (rowsOf (s .book))
+      let e = no-second-plan (papersOf (s .map) (s .book)) (records answerList) (λ l. written l answerList)
       (byteAt bytes 1) (byteAt bytes 2) (num3 bytes 3) answerList (p .list) (q .list) (p .answer) (q .answer) (λ M. yard-rules (M .rules) .long) (p .is) (q .is) in
       (p .said-so .next ∙ sym (q .said-so .next), p .said-so .prints ∙ ap₂ planLines (e .0) (e .1) ∙ sym (q .said-so .prints))
 
@@ -148,8 +147,8 @@ module _ (s : State) (bytes : List ℕ) (s₁ s₂ : State) (said₁ said₂ : L
 
   page-frame-same : PageFrame s bytes s₁ said₁ → PageFrame s bytes s₂ said₂ → Same
   page-frame-same p q =
-      let e = no-second-page (GoodMap (s .map)) (GoodBook (mapYard (s .map)) (s .book)) (records answerList) (λ l. written l answerList) (mapYard (s .map)) (rowsOf (s .book))
-      (byteAt bytes 1) (record { place = byteAt bytes 2; entry = num3 bytes 3; ticket = num3 bytes 6 }) answerList (p .list) (q .list) (p .answer) (q .answer) (p .is) (q .is) in
+      let e = no-second-page (papersOf (s .map) (s .book)) (records answerList) (λ l. written l answerList)
+      (byteAt bytes 1) (keyIn bytes 2) answerList (p .list) (q .list) (p .answer) (q .answer) (p .is) (q .is) in
       (p .said-so .next ∙ sym (q .said-so .next), p .said-so .prints ∙ ap₂ pageLines (e .0) (e .1) ∙ sym (q .said-so .prints))
 
   no-second-frame : 1 ≤ frameLength (byteAt bytes 0) → FrameSays s bytes s₁ said₁ → FrameSays s bytes s₂ said₂ → Same

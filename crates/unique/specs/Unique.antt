@@ -2,7 +2,6 @@
 -- holds, the same for both; each clause fixes every number returned and all that is left behind; and the chosen plan has no second.
 use Prim.Native.Nat.{ℕ, _+_, _≤_, _<_}
 use mathlib.Core.Path.{_≡_, sym, ap, subst, _∙_}
-use mathlib.Core.Logic.{inl, inr}
 use mathlib.Core.Bool.{Bool}
 use mathlib.Core.List.{List}
 use lib.ListN.{length}
@@ -14,23 +13,19 @@ use Rattle.rules.specs.declared.Booking.{Booking}
 use Rattle.rules.specs.declared.Cancelling.{Cancelling}
 use Rattle.rules.specs.declared.Paged.{Paged}
 use Rattle.rules.specs.Limits.{rowLimit}
-use Rattle.rules.specs.Map.{Yard, GoodMap, mapYard}
+use Rattle.rules.specs.Map.{GoodMap, mapYard}
 use Rattle.rules.specs.Rows.{Key, bit}
 use Rattle.rules.specs.Plan.{Stay, arrival, runRows}
 use Rattle.rules.specs.Book.{rowsOf}
 use Rattle.rules.specs.Chosen.{Chosen}
-use Rattle.rules.specs.Answer.{Unless, records, written, Planning, PlanRefused, PlanAnswers, BookingIs, BookRefused, BookDone, BookIs, CancellingIs, CancelIs, PagingIs, PageRefused, PageAnswers, plannedNumber, plannedArrival, plannedCount, pagedNumber, pagedCount, pagedMore}
-use Rattle.rules.specs.Portal.{MapSlice, BookSlice, sliceYard, sliceRows, oneNumber, PortalPlan, PortalPage}
+use Rattle.rules.specs.Bytes.{records, written}
+use Rattle.rules.specs.Gate.{Unless, Papers, Checked}
+use Rattle.rules.specs.GateLaws.{both, checked-both}
+use Rattle.rules.specs.Answer.{Planning, PlanRefused, PlanAnswers, BookingIs, BookRefused, BookDone, BookIs, CancellingIs, CancelIs, PagingIs, PageRefused, PageAnswers, plannedNumber, plannedArrival, plannedCount, pagedNumber, pagedCount, pagedMore}
+use Rattle.rules.specs.Portal.{slicePapers, oneNumber, PortalPlan, PortalPage}
 use Rattle.lanes.specs.Yards.{yard-rules}
 use Rattle.lanes.specs.Chosen.{no-second}
 use Rattle.unique.specs.Values.{planned-same, booked-same, cancelled-same, paged-same}
-
--- Two answers in the order of the refusals: refused by this number both, or neither.
-pub both : {ok bad bad′ rest rest′ E : Type 0} → (bad → bad′ → E) → (ok → rest → rest′ → E) → Unless ok bad rest → Unless ok bad′ rest′ → E
-both f g (inl x) (inl y) = f (x .1) (y .1)
-both f g (inl x) (inr y) = absurd (x .0 (y .0))
-both f g (inr x) (inl y) = absurd (y .0 (x .0))
-both f g (inr x) (inr y) = g (x .0) (x .1) (y .1)
 
 -- ---- page
 
@@ -40,12 +35,12 @@ page-same {r} {r′} p q = (
   p .holds ∙ sym (q .holds),
 )
 
-pub no-second-page : {A : Type 0} (map-ok book-ok : Type 0) (room : ℕ) (after : List Row → List A) (Y : Yard) (rows : List Row) (size : ℕ) (k : Key) (was out out′ : List A) (r r′ : Paged)
-    → Unless map-ok (PageRefused 1 was out r) (Unless book-ok (PageRefused 2 was out r) (PageAnswers room after Y rows size k was out r))
-    → Unless map-ok (PageRefused 1 was out′ r′) (Unless book-ok (PageRefused 2 was out′ r′) (PageAnswers room after Y rows size k was out′ r′))
+pub no-second-page : {A : Type 0} (g : Papers) (room : ℕ) (after : List Row → List A) (size : ℕ) (k : Key) (was out out′ : List A) (r r′ : Paged)
+    → Checked g (λ n. PageRefused n was out r) (PageAnswers room after (g .yard) (g .rows) size k was out r)
+    → Checked g (λ n. PageRefused n was out′ r′) (PageAnswers room after (g .yard) (g .rows) size k was out′ r′)
     → (r ≡ r′) × (out ≡ out′)
-no-second-page map-ok book-ok room after Y rows size k was out out′ r r′ =
-    both page-same (λ _. both page-same (λ _. both page-same (λ _. both page-same (λ _. both page-same (λ _. page-same)))))
+no-second-page g room after size k was out out′ r r′ =
+    checked-both (λ n. page-same) (λ _ _. both page-same (λ _. both page-same (λ _. both page-same (λ _. page-same))))
 
 -- ---- plan
 
@@ -56,20 +51,23 @@ plan-same {r} {r′} p q = (
 )
 
 -- the map's rules give durations of at least a second
-pub no-second-plan : {A : Type 0} (map-ok book-ok : Type 0) (room : ℕ) (after : List Row → List A) (Y : Yard) (rows : List Row) (start dest s : ℕ) (was out out′ : List A) (r r′ : Planned)
-    → (map-ok → (p : ℕ) → 0 < Y .dur p)
-    → Unless map-ok (PlanRefused 1 was out r) (Unless book-ok (PlanRefused 2 was out r) (PlanAnswers room after Y rows start dest s was out r))
-    → Unless map-ok (PlanRefused 1 was out′ r′) (Unless book-ok (PlanRefused 2 was out′ r′) (PlanAnswers room after Y rows start dest s was out′ r′))
+pub no-second-plan : {A : Type 0} (g : Papers) (room : ℕ) (after : List Row → List A) (start dest s : ℕ) (was out out′ : List A) (r r′ : Planned)
+    → (g .map-good → (p : ℕ) → 0 < g .yard .dur p)
+    → Checked g (λ n. PlanRefused n was out r) (PlanAnswers room after (g .yard) (g .rows) start dest s was out r)
+    → Checked g (λ n. PlanRefused n was out′ r′) (PlanAnswers room after (g .yard) (g .rows) start dest s was out′ r′)
     → (r ≡ r′) × (out ≡ out′)
-no-second-plan {A} map-ok book-ok room after Y rows start dest s was out out′ r r′ long =
-    both plan-same (λ M. both plan-same (λ _. both plan-same (λ _. both plan-same (λ _. both plan-same (λ _. chosen M)))))
+no-second-plan {A} g room after start dest s was out out′ r r′ long =
+    checked-both (λ n. plan-same) (λ M _. both plan-same (λ _. both plan-same (λ _. both plan-same (λ _. chosen M))))
   where
     Listed : List A → Planned → List Stay → Type 0
     Listed o x plan = Unless (length plan ≤ room) (PlanRefused 6 was o x) (Planning 0 (arrival plan) (length plan) (after (runRows 0 plan)) o x)
 
-    chosen : map-ok → (plan : List Stay) × Chosen Y rows start dest s plan × Listed out r plan → (plan : List Stay) × Chosen Y rows start dest s plan × Listed out′ r′ plan → (r ≡ r′) × (out ≡ out′)
+    Given : List A → Planned → Type 0
+    Given o x = (plan : List Stay) × Chosen (g .yard) (g .rows) start dest s plan × Listed o x plan
+
+    chosen : g .map-good → Given out r → Given out′ r′ → (r ≡ r′) × (out ≡ out′)
     chosen M x y =
-        let e : y .0 ≡ x .0 = no-second Y rows start dest s (long M) (y .1) (x .1) in
+        let e : y .0 ≡ x .0 = no-second (g .yard) (g .rows) start dest s (long M) (y .1) (x .1) in
         both plan-same (λ _. plan-same) (x .2) (subst (Listed out′ r′) e (y .2))
 
 -- ---- book
@@ -82,13 +80,16 @@ booking-same {r} {r′} p q =
 
 pub no-second-booking : (m : Map) (b : Book) (start dest s : ℕ) (r r′ : Booking) → BookIs m b start dest s r → BookIs m b start dest s r′ → r ≡ r′
 no-second-booking m b start dest s r r′ =
-    both booking-same (λ M.
-    both booking-same (λ _. both booking-same (λ _. both booking-same (λ _. both booking-same (λ _. both booking-same (λ _. chosen M))))))
+    checked-both (λ n. booking-same) (λ M _.
+    both booking-same (λ _. both booking-same (λ _. both booking-same (λ _. both booking-same (λ _. chosen M)))))
   where
     Entered : Booking → List Stay → Type 0
     Entered x plan = Unless (b .count + length plan ≤ rowLimit) (BookRefused 7 b x) (BookDone plan b x)
 
-    chosen : GoodMap m → (plan : List Stay) × Chosen (mapYard m) (rowsOf b) start dest s plan × Entered r plan → (plan : List Stay) × Chosen (mapYard m) (rowsOf b) start dest s plan × Entered r′ plan → r ≡ r′
+    Given : Booking → Type 0
+    Given x = (plan : List Stay) × Chosen (mapYard m) (rowsOf b) start dest s plan × Entered x plan
+
+    chosen : GoodMap m → Given r → Given r′ → r ≡ r′
     chosen M x y =
         let e : y .0 ≡ x .0 = no-second (mapYard m) (rowsOf b) start dest s (yard-rules (M .rules) .long) (y .1) (x .1) in
         both booking-same (λ _. booking-same) (x .2) (subst (Entered r′) e (y .2))
@@ -102,18 +103,18 @@ cancelling-same {r} {r′} p q =
     λ i. record { book = b i; answer = a i }
 
 pub no-second-cancelling : (m : Map) (b : Book) (ticket : ℕ) (r r′ : Cancelling) → CancelIs m b ticket r → CancelIs m b ticket r′ → r ≡ r′
-no-second-cancelling m b ticket r r′ = both cancelling-same (λ _. both cancelling-same (λ _. both cancelling-same (λ _. cancelling-same)))
+no-second-cancelling m b ticket r r′ = checked-both (λ n. cancelling-same) (λ _ _. both cancelling-same (λ _. cancelling-same))
 
 -- ---- the portal's two
 
 pub no-second-portal-plan : (map book : List ℕ) (start dest s : ℕ) (was out out′ : List ℕ) (r r′ : ℕ)
     → PortalPlan map book start dest s was out r → PortalPlan map book start dest s was out′ r′ → (r ≡ r′) × (out ≡ out′)
 no-second-portal-plan map book start dest s was out out′ r r′ p q =
-    let e = no-second-plan (MapSlice map) (BookSlice (sliceYard map) book) (records was) (λ l. written l was) (sliceYard map) (sliceRows book) start dest s was out out′ (p .answer) (q .answer) (λ M. yard-rules (M .rules) .long) (p .says) (q .says) in
+    let e = no-second-plan (slicePapers map book) (records was) (λ l. written l was) start dest s was out out′ (p .answer) (q .answer) (λ M. yard-rules (M .rules) .long) (p .says) (q .says) in
     (p .result ∙ ap (λ a. oneNumber (plannedNumber a) (plannedArrival a) (plannedCount a)) (e .0) ∙ sym (q .result), e .1)
 
 pub no-second-portal-page : (map book : List ℕ) (size : ℕ) (k : Key) (was out out′ : List ℕ) (r r′ : ℕ)
     → PortalPage map book size k was out r → PortalPage map book size k was out′ r′ → (r ≡ r′) × (out ≡ out′)
 no-second-portal-page map book size k was out out′ r r′ p q =
-    let e = no-second-page (MapSlice map) (BookSlice (sliceYard map) book) (records was) (λ l. written l was) (sliceYard map) (sliceRows book) size k was out out′ (p .answer) (q .answer) (p .says) (q .says) in
+    let e = no-second-page (slicePapers map book) (records was) (λ l. written l was) size k was out out′ (p .answer) (q .answer) (p .says) (q .says) in
     (p .result ∙ ap (λ a. oneNumber (pagedNumber a) (bit (pagedMore a)) (pagedCount a)) (e .0) ∙ sym (q .result), e .1)

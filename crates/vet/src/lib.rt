@@ -1,12 +1,36 @@
 // Map and book vetted together, as every call does first.
+use rules::Refusal;
 ghost use mathlib.Core.Path.{_≡_};
 ghost use Prim.Native.Nat.{ℕ};
 ghost use lib.ListN.{length};
 ghost use Rattle.laws.specs.Lists.{at};
-ghost use Rattle.flat.specs.Flat.{Packed};
-ghost use Rattle.vet.specs.Vetted.{Vetted};
+ghost use Rattle.flat.specs.Flat.{papersIn, rowsIn, Packed};
+ghost use Rattle.search.specs.Lanes.{Lanes};
+ghost use Rattle.vet.specs.Vetted.{verdictOf, Vetted};
 
-// 1,282 where the map breaks a rule, 1,281 where the book is not well formed on it, else the number of free windows.
+// How many free windows there are, or why map or book is refused.
+pub enum Verdict {
+    Sound(usize),
+    Refused(Refusal),
+}
+
+// A map that breaks a rule, where windows::NONE is a book that is not well formed.
+const NO_MAP: usize = windows::NONE + 1;
+
+// What `vet` found.
+pub fn judged(found: usize) -> Verdict
+    ensures { λ v. ⌜ v ≡ verdictOf found ⌝ }
+{
+    if found == NO_MAP {
+        return Verdict::Refused(Refusal::BadMap);
+    }
+    if found == windows::NONE {
+        return Verdict::Refused(Refusal::BadBook);
+    }
+    Verdict::Sound(found)
+}
+
+// Map and book tested: a number that `judged` reads. (A verdict returned from here would take a register from the tests.)
 pub fn vet(
     n: usize,
     k: usize,
@@ -29,10 +53,10 @@ pub fn vet(
     requires { ⌜ ((p : ℕ) → at (now head) p ≡ 0) ⌝ }
     requires { ⌜ Packed (now key) ⌝ }
     requires { ⌜ (length (now start) ≡ 1280) × (length (now end) ≡ 1280) × (length (now place) ≡ 1280) × (length (now first) ≡ 257) ⌝ }
-    ensures { λ r. ⌜ Vetted (now (cap .entry)) (now (dur .entry)) (now (from .entry)) (now (to .entry)) (now (head .exit)) (now (chain .exit)) n k (now (key .entry)) (now (tail .entry)) count «next_ticket» (now (place .exit)) (now (start .exit)) (now (end .exit)) (now (first .exit)) r ⌝ }
+    ensures { λ r. ⌜ Vetted (papersIn (now (cap .entry)) (now (dur .entry)) (now (from .entry)) (now (to .entry)) n k (now (key .entry)) (now (tail .entry)) count «next_ticket») (Lanes (now (cap .entry)) (now (dur .entry)) (now (from .entry)) (now (to .entry)) (now (head .exit)) (now (chain .exit)) n k (rowsIn (now (key .entry)) (now (tail .entry)) count) count (now (place .exit)) (now (start .exit)) (now (end .exit)) (now (first .exit))) (verdictOf r) ⌝ }
 {
     if !mapfit::map_fits(n, k, cap, dur, from, to, head, chain) {
-        return 1282;
+        return NO_MAP;
     }
     bookfit::book_fits(
         n,

@@ -1,4 +1,3 @@
 pub mod Walk
 pub mod Counts
-pub mod Reading
 pub mod WalkLaws

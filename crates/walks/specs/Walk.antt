@@ -1,11 +1,10 @@
 -- A walk over one book: pages, each from the cursor that the page before handed back, with whatever others do in between. Every event is
 -- a call that keeps its contract, and what a walk shows is what its caller reads in the answers.
-use Prim.Native.Nat.{ℕ, zero, suc, _+_, _*_, _≤_, _<_}
+use Prim.Native.Nat.{ℕ, _+_, _≤_, _<_}
 use mathlib.Core.Path.{_≡_}
 use mathlib.Core.Bool.{true, false}
 use mathlib.Core.List.{List, [], _∷_, _++_, List·Memᴰ}
-use lib.ListN.{length, getD, drop}
-use Rattle.laws.specs.Lists.{at}
+use lib.ListN.{length, getD}
 use Rattle.rules.specs.declared.Row.{Row}
 use Rattle.rules.specs.declared.Map.{Map}
 use Rattle.rules.specs.declared.Book.{Book}
@@ -15,24 +14,8 @@ use Rattle.rules.specs.declared.Cancelling.{Cancelling}
 use Rattle.rules.specs.declared.Paged.{Paged}
 use Rattle.rules.specs.Rows.{Key, rowKey, firstKey, rowAt, Rising}
 use Rattle.rules.specs.Book.{rowsOf}
+use Rattle.rules.specs.Bytes.{rowsFrom}
 use Rattle.rules.specs.Answer.{PlanIs, BookIs, CancelIs, PageIs, bookedCount, pagedNumber, pagedCount, pagedMore, pagedCursor}
-
--- ---- reading an answer
-
--- the row in the first 11 bytes of a list
-abbrev pub readRow : List ℕ → Row
-readRow l = record {
-  place = at l 0;
-  entry = at l 1 * 65536 + at l 2 * 256 + at l 3;
-  ticket = at l 4 * 65536 + at l 5 * 256 + at l 6;
-  exit = at l 7 * 65536 + at l 8 * 256 + at l 9;
-  next = at l 10;
-}
-
--- the first n rows in a list of row records
-abbrev pub readRows : ℕ → List ℕ → List Row
-readRows zero l = []
-readRows (suc n) l = readRow l ∷ readRows n (drop 11 l)
 
 -- ---- the events, all over one map
 
@@ -70,7 +53,7 @@ module _ (m : Map) where
 
 -- what a page shows: as many rows as it counts, read from the caller's list
 abbrev pub showsOf : {m : Map} {b : Book} {k : Key} → Page m b k → List Row
-showsOf p = readRows (pagedCount (p .answer)) (p .out)
+showsOf p = rowsFrom (p .out) 0 (pagedCount (p .answer))
 
 -- of one page: the rows that stood in the book when it was asked, and those that it shows
 pub record Seen : Type 0 where

@@ -3,7 +3,7 @@
 -- than what is booked and are fewer after each page that says more, which bounds the number of pages.
 use Prim.Native.Nat.{ℕ, zero, suc, _+_, _*_, _≤_, _<_}
 use mathlib.Core.Path.{_≡_, refl, sym, ap, subst, _∙_}
-use mathlib.Core.Logic.{_⊎_, inl, inr, ⊎-elim}
+use mathlib.Core.Logic.{_⊎_, ⊎-elim}
 use mathlib.Core.Bool.{true, false}
 use mathlib.Core.List.{List, [], _∷_, List·Memᴰ, List·Memᴰ·not-nil, List·Memᴰ·append-cases, Memᴰ·append-left, Memᴰ·append-right}
 use mathlib.Core.List.List·Memᴰ.{List·Memᴰ·head, List·Memᴰ·tail}
@@ -12,7 +12,7 @@ use lib.ListN.{length, drop, take-append-drop, drop-of-length-le}
 use lib.Seq.{length-take-le}
 use borrow.Author.Tests.{ltb-true, ltb-false}
 use Rattle.laws.specs.Order.{lt-or-ge}
-use Rattle.laws.specs.Lists.{mem-index}
+use Rattle.laws.specs.Lists.{mem-index, index-mem}
 use Rattle.rules.specs.declared.Row.{Row}
 use Rattle.rules.specs.declared.Map.{Map}
 use Rattle.rules.specs.declared.Book.{Book}
@@ -20,32 +20,27 @@ use Rattle.rules.specs.declared.Booking.{Booking}
 use Rattle.rules.specs.declared.Cancelling.{Cancelling}
 use Rattle.rules.specs.declared.Paged.{Paged}
 use Rattle.rules.specs.Map.{GoodMap, mapYard}
-use Rattle.rules.specs.Rows.{Key, rowKey, firstKey, noRow, Less, lessb, Rising, keep, insertAll}
+use Rattle.rules.specs.Rows.{Key, rowKey, firstKey, noRow, rowAt, Less, lessb, Rising, keep, insertAll}
 use Rattle.rules.specs.Rows.Less.{by-place, by-entry, by-ticket}
 use Rattle.rules.specs.Page.{after, pageRows, lastKey}
 use Rattle.rules.specs.Plan.{Stay, runRows}
 use Rattle.rules.specs.Book.{GoodBook, rowsOf, otherTicket}
-use Rattle.rules.specs.Answer.{Unless, BookIs, BookingIs, BookDone, bookedCount, CancelIs, CancellingIs, CancelDone, PagingIs, PageDone, pagedMore, pagedCursor}
+use Rattle.rules.specs.Bytes.{rowSize}
+use Rattle.rules.specs.ByteLaws.{read-rows}
+use Rattle.rules.specs.GateLaws.{unless, checked}
+use Rattle.rules.specs.Answer.{BookIs, BookRefused, BookDone, bookedCount, CancelIs, CancelRefused, CancelDone, PageRefused, PageDone, pagedMore, pagedCursor}
 use Rattle.keeping.specs.OrderLaws.{less-trans, less-lessb, lessb-less, same-lessb}
 use Rattle.keeping.specs.Chains.{Chain, chain-below, chain-take, chain-append, chain-rest, chain-rising, after-chain, keys-once}
 use Rattle.keeping.specs.Chains.Chain.{none}
 use Rattle.keeping.specs.Changes.{keep-mem, mem-keep, keep-le}
 use Rattle.keeping.specs.Runs.{run-length}
-use Rattle.keeping.specs.Keeping.{row-ranges}
+use Rattle.keeping.specs.Keeping.{row-ranges, row-fits}
 use Rattle.keeping.specs.Books.{rows-of-book}
-use Rattle.keeping.specs.Calls.{unless, booking-good, cancelling-good}
+use Rattle.keeping.specs.Calls.{booking-good, cancelling-good}
 use Rattle.walks.specs.Walk.{Page, Others, Walk, showsOf, pages, shown, bookedBy, booked, pageAt, Stood, Walked}
 use Rattle.walks.specs.Walk.Others.{rests, plans, books, cancels, looks}
 use Rattle.walks.specs.Walk.Walk.{ends, goes}
 use Rattle.walks.specs.Counts.{keep-less, keep-keep, keep-all}
-use Rattle.walks.specs.Reading.{Fits, read-rows}
-
--- ---- the numbers in order
-
--- not refused by this number
-past : {ok bad rest : Type 0} → (bad → ⊥) → Unless ok bad rest → ok × rest
-past f (inl x) = absurd (f (x .1))
-past f (inr y) = y
 
 -- ---- one page
 
@@ -57,17 +52,17 @@ record Paging (m : Map) (b : Book) (size : ℕ) (k : Key) (list out : List ℕ) 
   is : PageDone (rowsOf b) size k list out r
 
 module _ {m : Map} {b : Book} {k : Key} (p : Page m b k) where
-  refused : {n : ℕ} {list : List ℕ} → 0 < n → PagingIs n 0 false firstKey list (p .out) (p .answer) → ⊥
-  refused h x = omega (arith, x .code, p .done)
+  refused : {X : Type 0} (n : ℕ) → 0 < n → PageRefused n (p .list) (p .out) (p .answer) → X
+  refused n h x = absurd (omega (arith, x .code, p .done))
 
   paging : Paging m b (p .size) k (p .list) (p .out) (p .answer)
   paging =
-      let one = past (refused (omega arith)) (p .call) in
-      let two = past (refused (omega arith)) (one .1) in
-      let three = past (refused (omega arith)) (two .1) in
-      let four = past (refused (omega arith)) (three .1) in
-      let five = past (refused (omega arith)) (four .1) in
-      record { good-map = one .0; good-book = two .0; some = three .0 .0; is = five .1 }
+      checked (λ n h. refused n (h .some))
+      (λ gm gb. unless (refused 10 (omega arith))
+      (λ sized. unless (refused 11 (omega arith))
+      (λ cursor. unless (refused 6 (omega arith))
+      (λ room shows. record { good-map = gm; good-book = gb; some = sized .0; is = shows }))))
+      (p .call)
 
   abbrev rows : List Row
   rows = rowsOf b
@@ -85,23 +80,12 @@ module _ {m : Map} {b : Book} {k : Key} (p : Page m b k) where
   page-stood : (x : Row) → List·Memᴰ x page → List·Memᴰ x rows
   page-stood x n = mem-keep (λ r. lessb k (rowKey r)) x rows (mem-page x n) .0
 
-  row-fits : (x : Row) → List·Memᴰ x rows → Fits x
-  row-fits x n =
-      let R = row-ranges (paging .good-book .formed) x n in
-      let few = paging .good-map .rules .few in
-      record {
-        place = omega (arith, R .place, few);
-        entry = omega (arith, R .entry);
-        ticket = omega (arith, R .ticket-to, paging .good-book .formed .ticket-to);
-        exit = omega (arith, R .exit);
-        next = omega (arith, R .next, few);
-      }
-
   -- what the caller reads is the page
   pub shows-page : showsOf p ≡ pageRows (p .size) k (rowsOf b)
   shows-page =
       let D = paging .is in
-      rw (D .counts, D .holds) (read-rows page (drop (11 * length page) (p .list)) (λ x n. row-fits x (page-stood x n)))
+      let fits = row-fits (paging .good-map .rules .few) (paging .good-book .formed) in
+      rw (D .counts, D .holds) (read-rows page (drop (rowSize * length page) (p .list)) (λ j h. fits (rowAt page j) (page-stood (rowAt page j) (index-mem noRow page j h))))
 
   -- and the cursor handed back is its last row's key
   pub cursor-last : pagedCursor (p .answer) ≡ lastKey k (showsOf p)
@@ -155,9 +139,9 @@ Grows k b c n = above k c ≤ above k b + n
 
 module _ {m : Map} (k : Key) where
   book-grows : {b : Book} {start dest s : ℕ} {r : Booking} → BookIs m b start dest s r → Grows k b (r .book) (bookedCount (r .answer))
-  book-grows {b} {r = r} h = unless same (λ a. unless same (λ a. unless same (λ a. unless same (λ a. unless same (λ a. unless same (λ a c. unless same (λ a. done (c .0)) (c .2))))))) h
+  book-grows {b} {r = r} h = checked (λ n _. same) (λ M G. unless same (λ a. unless same (λ a. unless same (λ a. unless same (λ a c. unless same (λ a. done (c .0)) (c .2)))))) h
     where
-      same : {n : ℕ} → BookingIs n 0 0 0 b r → Grows k b (r .book) (bookedCount (r .answer))
+      same : {n : ℕ} → BookRefused n b r → Grows k b (r .book) (bookedCount (r .answer))
       same x = let e = ap (above k) (x .holds) in omega arith
 
       done : (plan : List Stay) → BookDone plan b r → Grows k b (r .book) (bookedCount (r .answer))
@@ -168,9 +152,9 @@ module _ {m : Map} (k : Key) where
           omega (arith, e, keep-all (λ r. lessb k (rowKey r)) new (rowsOf b), run-length (b .«next_ticket») plan, x .counts)
 
   cancel-grows : {b : Book} {ticket : ℕ} {r : Cancelling} → CancelIs m b ticket r → Grows k b (r .book) 0
-  cancel-grows {b} {ticket} {r} h = unless same (λ a. unless same (λ a. unless same (λ a. done))) h
+  cancel-grows {b} {ticket} {r} h = checked (λ n _. same) (λ M G. unless same (λ a. done)) h
     where
-      same : {n : ℕ} → CancellingIs n 0 b r → Grows k b (r .book) 0
+      same : {n : ℕ} → CancelRefused n b r → Grows k b (r .book) 0
       same x = let e = ap (above k) (x .holds) in omega arith
 
       done : CancelDone ticket b r → Grows k b (r .book) 0

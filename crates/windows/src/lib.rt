@@ -1,10 +1,16 @@
 // All free windows of a book, by one sweep a place over the rows in key order.
+use rules::Map;
+use rules::Trip;
 ghost use mathlib.Core.Path.{_≡_};
 ghost use Prim.Native.Nat.{_-_, _≤_};
 ghost use lib.ListN.{length};
+ghost use Rattle.rules.specs.Limits.{capacityLimit, rowLimit};
 ghost use Rattle.flat.specs.Flat.{placeOf, entryOf, spanAt};
 ghost use Rattle.windows.specs.Sweep.{runLoad, Sweepable, Sweep, LeastAt};
 ghost use Rattle.windows.specs.Places.{Past, Given, AllWindows};
+
+// No number of windows: a place is overfull.
+pub const NONE: usize = Trip::STAYS + 1;
 
 // a key is place * 2^48 + entry * 2^24 + ticket
 fn place_of(k: u64) -> usize
@@ -22,7 +28,7 @@ fn entry_of(k: u64) -> u32
 // where the least of the first c kept exits is
 fn least_at(top: &[u32; 16], c: usize) -> usize
     requires { ⌜ 1 ≤ c ⌝ }
-    requires { ⌜ c ≤ 16 ⌝ }
+    requires { ⌜ c ≤ capacityLimit ⌝ }
     ensures { λ r. ⌜ LeastAt (now (top .entry)) c r ⌝ }
 {
     let mut j: usize = 0;
@@ -36,7 +42,7 @@ fn least_at(top: &[u32; 16], c: usize) -> usize
     j
 }
 
-// The windows of place p, whose rows are a .. b, written from number `from` on: the number after the last, 1,281 where the place is overfull.
+// The windows of place p, whose rows are a .. b, written from number `from` on: the number after the last, NONE where the place is overfull.
 // `top` keeps the exits of the rows inside; there is room from second `free` on.
 fn sweep(
     key: &[u64; 1024],
@@ -66,7 +72,7 @@ fn sweep(
     while i < n {
         let t = entry_of(key[a + i]);
         if t < top[low] {
-            return 1281;
+            return NONE;
         }
         top[low] = flat::exit_of(tail[a + i]);
         low = least_at(&top, c);
@@ -82,9 +88,9 @@ fn sweep(
         }
         i += 1;
     }
-    if free + d <= 86400 {
+    if free + d <= Map::DAY {
         start[w] = free;
-        end[w] = 86400;
+        end[w] = Map::DAY;
         place[w] = p;
         w += 1;
     }
@@ -94,7 +100,7 @@ fn sweep(
 // the first row from a on that is not of place p, count where there is none
 fn past(key: &[u64; 1024], count: usize, a: usize, p: usize) -> usize
     requires { ⌜ a ≤ count ⌝ }
-    requires { ⌜ count ≤ 1024 ⌝ }
+    requires { ⌜ count ≤ rowLimit ⌝ }
     ensures { λ r. ⌜ Past (now (key .entry)) count a p r ⌝ }
 {
     let mut i = a;
@@ -107,7 +113,7 @@ fn past(key: &[u64; 1024], count: usize, a: usize, p: usize) -> usize
     i
 }
 
-// The free windows of the places 0 .. n, place after place, and the first window of each: the number of windows, 1,281 where a place is overfull.
+// The free windows of the places 0 .. n, place after place, and the first window of each: the number of windows, NONE where a place is overfull.
 pub fn all_windows(
     n: usize,
     count: usize,
@@ -136,8 +142,8 @@ pub fn all_windows(
         let c = cap[p] as usize;
         let d = dur[p];
         let r = sweep(key, tail, a, b, c, d, p as u8, w, start, end, place);
-        if r == 1281 {
-            return 1281;
+        if r == NONE {
+            return NONE;
         }
         a = b;
         w = r;

@@ -1,6 +1,6 @@
--- Rows written as records of 11 bytes, one behind the other. A row put over record j, where the j records before it hold the rows so far,
+-- Rows written as records of bytes, one behind the other. A row put over record j, where the j records before it hold the rows so far,
 -- makes one more row written: its bytes come behind theirs, and what lies after the record is as it was.
-use Prim.Native.Nat.{ℕ, _+_, _-_, _*_, _/_, _%_, _≤_, _<_}
+use Prim.Native.Nat.{ℕ, _+_, _-_, _*_, _%_, _≤_, _<_}
 use mathlib.Core.Path.{_≡_, refl, sym, ap, ap₂, _∙_}
 use mathlib.Core.List.{List, [], _∷_, _++_, append-assoc, append-nil}
 use native.Mathlib.Omega.{arith}
@@ -9,13 +9,10 @@ use lib.Seq.{drop-length, take-at, drop-at, take-all, drop-drop, sets-eq, sets}
 use borrow.Rule.Slice.PartMut.{putMid}
 use Rattle.laws.specs.Lists.{at, tabulate, length-tabulate}
 use Rattle.rules.specs.declared.Row.{Row}
-use Rattle.rules.specs.Answer.{rowBytes, rowsBytes, written}
+use Rattle.rules.specs.Bytes.{bytes3, rowSize, rowBytes, rowsBytes, written}
+use Rattle.rules.specs.ByteLaws.{bytes-long}
 use Rattle.flat.specs.Flat.{rowOf}
 use Rattle.wire.specs.Tables.{tabulate-snoc, rowsFor}
-
-pub bytes-long : (l : List Row) → length (rowsBytes l) ≡ 11 * length l
-bytes-long [] = refl
-bytes-long (r ∷ l) = let h = bytes-long l in omega arith
 
 pub bytes-append : (a b : List Row) → rowsBytes (a ++ b) ≡ rowsBytes a ++ rowsBytes b
 bytes-append [] b = refl
@@ -23,7 +20,7 @@ bytes-append (r ∷ a) b = ap (λ (t : List ℕ). rowBytes r ++ t) (bytes-append
 
 -- the row is over record j of the bytes, and the rest is as it was
 pub record PutAt (r : Row) (j : ℕ) (was out : List ℕ) : Type 0 where
-  pub over : out ≡ take (11 * j) was ++ (rowBytes r ++ drop (11 * (j + 1)) was)
+  pub over : out ≡ take (rowSize * j) was ++ (rowBytes r ++ drop (rowSize * (j + 1)) was)
   pub long : length out ≡ length was
 
 -- ---- rows written one after the other: none, and one more
@@ -35,51 +32,46 @@ pub written-next : (l : List Row) (first : List ℕ) {r : Row} {j : ℕ} {was ou
     → out ≡ written (l ++ (r ∷ [])) first
 written-next l first {r} {j} {was} {out} P n e =
     let f : List ℕ = rowsBytes l in
-    let w : List ℕ = drop (11 * length l) first in
-    let a : length f ≡ 11 * j = bytes-long l ∙ ap (λ (k : ℕ). 11 * k) n in
-    let front : take (11 * j) was ≡ f = rw e (take-at f w (11 * j) a) in
-    let rest : drop (11 * j) was ≡ w = rw e (drop-at f w (11 * j) a) in
-    let two : 11 * j + 11 ≡ 11 * (j + 1) = omega arith in
-    let more : 11 * length l + 11 ≡ 11 * length (l ++ (r ∷ [])) = omega (arith, length-append l (r ∷ [])) in
-    let end : drop (11 * (j + 1)) was ≡ drop (11 * length (l ++ (r ∷ []))) first =
-    ap (λ (k : ℕ). drop k was) (sym two) ∙ sym (drop-drop 11 (11 * j) was) ∙ ap (drop 11) rest ∙ drop-drop 11 (11 * length l) first
+    let w : List ℕ = drop (rowSize * length l) first in
+    let a : length f ≡ rowSize * j = bytes-long l ∙ ap (λ (k : ℕ). rowSize * k) n in
+    let front : take (rowSize * j) was ≡ f = rw e (take-at f w (rowSize * j) a) in
+    let rest : drop (rowSize * j) was ≡ w = rw e (drop-at f w (rowSize * j) a) in
+    let two : rowSize * j + rowSize ≡ rowSize * (j + 1) = omega arith in
+    let more : rowSize * length l + rowSize ≡ rowSize * length (l ++ (r ∷ [])) = omega (arith, length-append l (r ∷ [])) in
+    let end : drop (rowSize * (j + 1)) was ≡ drop (rowSize * length (l ++ (r ∷ []))) first =
+    ap (λ (k : ℕ). drop k was) (sym two) ∙ sym (drop-drop rowSize (rowSize * j) was) ∙ ap (drop rowSize) rest ∙ drop-drop rowSize (rowSize * length l) first
     ∙ ap (λ (k : ℕ). drop k first) more in
     P .over
-    ∙ rw (front, end) (sym (append-assoc f (rowBytes r) (drop (11 * length (l ++ (r ∷ []))) first)))
-    ∙ ap (λ (t : List ℕ). t ++ drop (11 * length (l ++ (r ∷ []))) first) (sym (bytes-append l (r ∷ [])))
+    ∙ rw (front, end) (sym (append-assoc f (rowBytes r) (drop (rowSize * length (l ++ (r ∷ []))) first)))
+    ∙ ap (λ (t : List ℕ). t ++ drop (rowSize * length (l ++ (r ∷ []))) first) (sym (bytes-append l (r ∷ [])))
 
 -- ---- the stores of one row
 
--- a row's eleven bytes, with its place and next as they are: each is a byte already
+-- a row's bytes, with its place and next as they are: each is a byte already
 abbrev pub fieldBytes : ℕ → Row → ℕ → List ℕ
-fieldBytes place r next =
-    place
-    ∷ (r .entry / 65536 % 256 ∷ (r .entry / 256 % 256 ∷ (r .entry % 256
-    ∷ (r .ticket / 65536 % 256 ∷ (r .ticket / 256 % 256 ∷ (r .ticket % 256
-    ∷ (r .exit / 65536 % 256 ∷ (r .exit / 256 % 256 ∷ (r .exit % 256
-    ∷ (next ∷ []))))))))))
+fieldBytes place r next = place ∷ (bytes3 (r .entry) ++ (bytes3 (r .ticket) ++ (bytes3 (r .exit) ++ (next ∷ []))))
 
 -- stored over the front of a slice
-pub put-row-is : (r : Row) (s : List ℕ) → r .place < 256 → r .next < 256 → 11 ≤ length s → sets s 0 (fieldBytes (r .place) r (r .next)) ≡ rowBytes r ++ drop 11 s
+pub put-row-is : (r : Row) (s : List ℕ) → r .place < 256 → r .next < 256 → rowSize ≤ length s → sets s 0 (fieldBytes (r .place) r (r .next)) ≡ rowBytes r ++ drop rowSize s
 put-row-is r s p n h =
     let a : r .place ≡ r .place % 256 = omega arith in
     let b : r .next ≡ r .next % 256 = omega arith in
     ap₂ (λ (x y : ℕ). sets s 0 (fieldBytes x r y)) a b ∙ sets-eq (rowBytes r) s 0 h
 
 -- a row put over the front of the part that begins with record j
-pub put-at-is : (r : Row) (j : ℕ) (was p : List ℕ) → 11 * (j + 1) ≤ length was
-    → p ≡ rowBytes r ++ drop 11 (take (length was - 11 * j) (drop (11 * j) was))
-    → length (putMid (11 * j) (length was - 11 * j) was p) ≡ length was
-    → PutAt r j was (putMid (11 * j) (length was - 11 * j) was p)
+pub put-at-is : (r : Row) (j : ℕ) (was p : List ℕ) → rowSize * (j + 1) ≤ length was
+    → p ≡ rowBytes r ++ drop rowSize (take (length was - rowSize * j) (drop (rowSize * j) was))
+    → length (putMid (rowSize * j) (length was - rowSize * j) was p) ≡ length was
+    → PutAt r j was (putMid (rowSize * j) (length was - rowSize * j) was p)
 put-at-is r j was p h e n =
-    let w : List ℕ = drop (11 * j) was in
-    let long : length was - 11 * j ≡ length w = sym (length-drop (11 * j) was) in
-    let whole : take (length was - 11 * j) w ≡ w = take-all (length was - 11 * j) w (omega arith) in
-    let gone : drop (length was - 11 * j) w ≡ [] = ap (λ (k : ℕ). drop k w) long ∙ drop-length w in
-    let two : 11 * j + 11 ≡ 11 * (j + 1) = omega arith in
-    let end : drop 11 w ≡ drop (11 * (j + 1)) was = drop-drop 11 (11 * j) was ∙ ap (λ (k : ℕ). drop k was) two in
+    let w : List ℕ = drop (rowSize * j) was in
+    let long : length was - rowSize * j ≡ length w = sym (length-drop (rowSize * j) was) in
+    let whole : take (length was - rowSize * j) w ≡ w = take-all (length was - rowSize * j) w (omega arith) in
+    let gone : drop (length was - rowSize * j) w ≡ [] = ap (λ (k : ℕ). drop k w) long ∙ drop-length w in
+    let two : rowSize * j + rowSize ≡ rowSize * (j + 1) = omega arith in
+    let end : drop rowSize w ≡ drop (rowSize * (j + 1)) was = drop-drop rowSize (rowSize * j) was ∙ ap (λ (k : ℕ). drop k was) two in
     record {
-      over = rw (gone, e, whole, end) (ap (λ (t : List ℕ). take (11 * j) was ++ t) (append-nil (rowBytes r ++ drop (11 * (j + 1)) was)));
+      over = rw (gone, e, whole, end) (ap (λ (t : List ℕ). take (rowSize * j) was ++ t) (append-nil (rowBytes r ++ drop (rowSize * (j + 1)) was)));
       long = n;
     }
 

@@ -2,7 +2,7 @@
 use mathlib.Core.Path.{refl, sym, _∙_}
 use borrow.Author.Tests.{not-true}
 use Rattle.laws.specs.Tests.{not-both}
-use Rattle.bookfit.specs.Against.{crossed-opposed, opposed-crossed}
+use Rattle.bookfit.specs.Against.{barred-opposed, opposed-barred}
 use borrow.Author.Needs.{needs}
 use Rattle.bookfit.proofs.opposed.Statement.{statement}
 use Rattle.bookfit.proofs.opposed.Tie as tie
@@ -40,8 +40,8 @@ returns-2 : tie.Need-returns-2
 returns-2 c =
     let s = c .before .before .before .before .before .before .before in
     let e = rw (c .before .before .next-of .ensures .0, c .before .before .before .before .place-of .ensures, c .before .exit-of .ensures .0) at (c .barred .ensures) in (
-      λ q. crossed-opposed (s .args .key .now) (s .args .tail .now) (s .args .count) (s .args .i) (s .pre .1 .1) (sym e ∙ q),
-      λ _ o. e ∙ opposed-crossed (s .args .key .now) (s .args .tail .now) (s .args .count) (s .args .i) o,
+      λ q. barred-opposed (s .args .key .now) (s .args .tail .now) (s .args .count) (s .args .i) (s .pre .1 .1) (sym e ∙ q),
+      λ _ o. e ∙ opposed-barred (s .args .key .now) (s .args .tail .now) (s .args .count) (s .args .i) o,
     )
 
 pub opposed-spec : {M : Type 1} → statement M

@@ -35,15 +35,19 @@ vet-requires c κs =
     let z = P .1 .1 .1 .1 in
     ((a .0, a .1), (a .2, (c .before .before .before .before .before .before .before .before .before .before .before .before .read-book .ensures .flat .packed, (z .1, z .2, z .0, z .3))))
 
+judged-requires : tie.Need-judged-requires
+judged-requires c κs = search needs
+
 returns : tie.Need-returns
 returns c =
-    let b = c .before .before .before .before .before .before .before .before .before .before .before .before .before in
+    let w = c .before in
+    let b = w .before .before .before .before .before .before .before .before .before .before .before .before .before in
     let l = b .before .before .before in
     let p = l .before .before .before in
     let s = p .before .before .before in
-    surveyed (b .read-book .ensures) (p .flat-places .ensures) (l .flat-links .ensures) (places-long s) (links-long s) (rows-long s) (c .vet .ensures)
+    surveyed (b .read-book .ensures) (p .flat-places .ensures) (l .flat-links .ensures) (places-long s) (links-long s) (rows-long s) (c .judged .ensures) (w .vet .ensures)
 
 pub survey-spec : {M : Type 1} → statement M
 survey-spec =
     tie.close
-    (tie.spec flat-places-requires flat-links-requires read-book-requires vet-requires returns)
+    (tie.spec flat-places-requires flat-links-requires read-book-requires vet-requires judged-requires returns)

@@ -3,6 +3,7 @@ use mathlib.Core.Path.{_≡_}
 use native.Mathlib.Omega.{arith}
 use lib.ListN.{length}
 use borrow.Author.Needs.{needs}
+use Rattle.rules.specs.Bytes.{listSize}
 use Rattle.frames.specs.Frames.{page-few, page-frame}
 use Rattle.frames.proofs.page_frame.Statement.{statement}
 use Rattle.frames.proofs.page_frame.Tie as tie
@@ -42,9 +43,12 @@ slice-aggregate-put-answer c = search needs
 
 put-answer-requires : tie.Need-put-answer-requires
 put-answer-requires c κs =
-    let k : length (c .before .before .before .before .before .page .last .1 .1 .1 .1 .0) ≡ 14080 = c .before .before .before .before .before .page .kept .1 .1 .1 .1 .0 in
-    let f = page-few (c .before .before .before .before .before .page .ensures) in
-    ((c .before .before .before .page-head .ensures .fits, c .before .before .before .page-head .ensures .long), (omega (arith, c .before .before .count .ensures), omega (arith, c .before .before .count .ensures)))
+    let p = c .before .before .before .before .before .page in
+    let h = c .before .before .before .page-head .ensures in
+    let n = c .before .before .count .ensures in
+    let k : length (p .last .1 .1 .1 .1 .0) ≡ listSize = p .kept .1 .1 .1 .1 .0 in
+    let f = page-few (p .ensures) in
+    ((h .fits, h .long), (omega arith, omega arith))
 
 same-length : tie.Need-same-length
 same-length c = search needs
@@ -55,10 +59,13 @@ returns c =
     let p = c .before .before .before .before .before .before .before .before .page in
     let h = c .before .before .before .before .before .before .page-head in
     let n = c .before .before .before .before .before .count in
-    let k : length (p .last .1 .1 .1 .1 .0) ≡ 14080 = p .kept .1 .1 .1 .1 .0 in
+    let k : length (p .last .1 .1 .1 .1 .0) ≡ listSize = p .kept .1 .1 .1 .1 .0 in
     let f = page-few (p .ensures) in
     page-frame (a .s) (a .b .now) (h .result) (p .result) (p .last .1 .1 .1 .1 .0) (n .result)
-    (c .before .before .before .before .before .before .before .before .before .before .before .before .before .before .before .before .wide .ensures) (c .before .before .before .before .before .before .before .before .before .before .before .before .before .before .wide2 .ensures) (c .before .before .before .before .before .before .before .before .before .before .before .before .three .ensures .0) (c .before .before .before .before .before .before .before .before .before .before .three2 .ensures .0)
+    (c .before .before .before .before .before .before .before .before .before .before .before .before .before .before .before .before .wide .ensures)
+    (c .before .before .before .before .before .before .before .before .before .before .before .before .before .before .wide2 .ensures)
+    (c .before .before .before .before .before .before .before .before .before .before .before .before .three .ensures .0)
+    (c .before .before .before .before .before .before .before .before .before .before .three2 .ensures .0)
     (p .ensures) (omega (arith, n .ensures)) k (n .ensures) (h .ensures) (c .before .before .put-answer .ensures)
 
 pub page-frame-spec : {M : Type 1} → statement M

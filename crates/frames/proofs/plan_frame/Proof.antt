@@ -5,6 +5,7 @@ use native.Mathlib.Omega.{arith}
 use lib.ListN.{length}
 use borrow.Author.Needs.{needs}
 use lib.ListN.{length-replicate}
+use Rattle.rules.specs.Bytes.{listSize}
 use Rattle.frames.specs.Frames.{plan-few, plan-frame}
 use Rattle.frames.proofs.plan_frame.Statement.{statement}
 use Rattle.frames.proofs.plan_frame.Tie as tie
@@ -41,9 +42,12 @@ slice-aggregate-put-answer c = search needs
 
 put-answer-requires : tie.Need-put-answer-requires
 put-answer-requires c κs =
-    let k : length (c .before .before .before .before .before .plan .last .1 .1 .1 .1 .1 .0) ≡ 14080 = c .before .before .before .before .before .plan .kept .1 .1 .1 .1 .1 .0 in
-    let f = plan-few (c .before .before .before .before .before .plan .ensures) (length-replicate {A = ℕ} 14080 0) in
-    ((c .before .before .before .plan-head .ensures .fits, c .before .before .before .plan-head .ensures .long), (omega (arith, c .before .before .count .ensures), omega (arith, c .before .before .count .ensures)))
+    let p = c .before .before .before .before .before .plan in
+    let h = c .before .before .before .plan-head .ensures in
+    let n = c .before .before .count .ensures in
+    let k : length (p .last .1 .1 .1 .1 .1 .0) ≡ listSize = p .kept .1 .1 .1 .1 .1 .0 in
+    let f = plan-few (p .ensures) (length-replicate {A = ℕ} listSize 0) in
+    ((h .fits, h .long), (omega arith, omega arith))
 
 same-length : tie.Need-same-length
 same-length c = search needs
@@ -54,10 +58,12 @@ returns c =
     let p = c .before .before .before .before .before .before .before .before .plan in
     let h = c .before .before .before .before .before .before .plan-head in
     let n = c .before .before .before .before .before .count in
-    let k : length (p .last .1 .1 .1 .1 .1 .0) ≡ 14080 = p .kept .1 .1 .1 .1 .1 .0 in
-    let f = plan-few (p .ensures) (length-replicate {A = ℕ} 14080 0) in
+    let k : length (p .last .1 .1 .1 .1 .1 .0) ≡ listSize = p .kept .1 .1 .1 .1 .1 .0 in
+    let f = plan-few (p .ensures) (length-replicate {A = ℕ} listSize 0) in
     plan-frame (a .s) (a .b .now) (h .result) (p .result) (p .last .1 .1 .1 .1 .1 .0) (n .result)
-    (c .before .before .before .before .before .before .before .before .before .before .before .before .before .before .wide .ensures) (c .before .before .before .before .before .before .before .before .before .before .before .before .wide2 .ensures) (c .before .before .before .before .before .before .before .before .before .before .three .ensures .0)
+    (c .before .before .before .before .before .before .before .before .before .before .before .before .before .before .wide .ensures)
+    (c .before .before .before .before .before .before .before .before .before .before .before .before .wide2 .ensures)
+    (c .before .before .before .before .before .before .before .before .before .before .three .ensures .0)
     (p .ensures) (omega (arith, n .ensures)) k (n .ensures) (h .ensures) (c .before .before .put-answer .ensures)
 
 pub plan-frame-spec : {M : Type 1} → statement M

@@ -4,7 +4,8 @@ use lib.ListN.{length}
 use borrow.Author.Needs.{needs}
 use Rattle.laws.specs.Lists.{zeros}
 use Rattle.flatten.specs.Lists.{unmapped}
-use Rattle.desk.specs.Given.{page-given}
+use Rattle.flatten.specs.Given.{given}
+use Rattle.desk.specs.Transfer.{page-as}
 use Rattle.paging.proofs.page.Statement.{statement}
 use Rattle.paging.proofs.page.Tie as tie
 
@@ -36,7 +37,7 @@ returns c =
     let l = b .before .before .before in
     let p = l .before .before .before in
     let s = p .before .before .before .before in
-    page-given (p .flat-places .ensures) (l .flat-links .ensures) (long-places s) (long-links s) (b .read-book .ensures) (f .page-flat .ensures)
+    page-as (given (p .flat-places .ensures) (l .flat-links .ensures) (long-places s) (long-links s) (b .read-book .ensures)) (f .page-flat .ensures)
 
 pub page-spec : {M : Type 1} → statement M
 page-spec =

@@ -4,6 +4,7 @@ use mathlib.Core.Path.{ap, _∙_}
 use native.Mathlib.Omega.{arith}
 use borrow.Author.Needs.{needs}
 use Rattle.laws.specs.Lists.{at}
+use Rattle.rules.specs.Rows.{row}
 use Rattle.planner.specs.Route.{goesRow, step-goes, step-last}
 use Rattle.planner.proofs.step_at.Statement.{statement}
 use Rattle.planner.proofs.step_at.Tie as tie
@@ -58,13 +59,18 @@ element-copy-out-q c =
     let s = c .before .before .before .before .before .before .before .before in
     omega (arith, c .before .broad2 .ensures .0, s .pre .0 .window (s .args .k + 1) (c .before .before .before .if1 .taken))
 
+new-requires : tie.Need-new-requires
+new-requires c κs = search needs
+
 returns : tie.Need-returns
 returns c =
-    let s = c .before .before .before .before .before .before .before .before .before in
+    let s = c .before .before .before .before .before .before .before .before .before .before in
     let a = s .args in
-    let e = c .before .before .before .before .before .before .before .broad .ensures .0 in
-    let f = c .before .before .broad2 .ensures .0 in
-    (λ i. goesRow (a .dur .now) (a .place .now) (a .label .now) (a .ticket) (e i) (f i)) ∙ step-goes (a .dur .now) (a .place .now) (a .label .now) (a .path .now) (a .count) (a .k) (a .ticket) (s .pre .0) (s .pre .1) (c .before .before .before .before .if1 .taken)
+    let e = c .before .before .before .before .before .before .before .before .broad .ensures .0 in
+    let f = c .before .before .before .broad2 .ensures .0 in
+    let t = c .before .before .before .before .before .if1 .taken in
+    c .new .ensures ∙ (λ i. goesRow (a .dur .now) (a .place .now) (a .label .now) (a .ticket) (e i) (f i))
+    ∙ step-goes (a .dur .now) (a .place .now) (a .label .now) (a .path .now) (a .count) (a .k) (a .ticket) (s .pre .0) (s .pre .1) t
 
 wide-requires : tie.Need-wide-requires
 wide-requires c κs = search needs
@@ -75,8 +81,8 @@ mul-d c = search needs
 element-copy-out-d : tie.Need-element-copy-out-d
 element-copy-out-d c = search needs
 
-add-x : tie.Need-add-x
-add-x c =
+add-new : tie.Need-add-new
+add-new c =
     let s = c .before .before .before .before .before .before .before in
     let a = s .args in
     let e = c .before .before .before .before .before .broad .ensures .0 in
@@ -85,16 +91,19 @@ add-x c =
     let h = ap (at (a .dur .now)) (f ∙ ap (at (a .place .now)) e) in
     omega (arith, s .pre .0 .label (a .k) (s .pre .1), s .pre .0 .dur (a .k) (s .pre .1))
 
+new-requires-2 : tie.Need-new-requires-2
+new-requires-2 c κs = search needs
+
 returns-2 : tie.Need-returns-2
 returns-2 c =
-    let s = c .before .before .before .before .before .before .before in
+    let s = c .before .before .before .before .before .before .before .before in
     let a = s .args in
-    let e = c .before .before .before .before .before .broad .ensures .0 in
-    let f = c .before .wide .ensures .0 ∙ ap (at (a .place .now)) e in
+    let e = c .before .before .before .before .before .before .broad .ensures .0 in
+    let f = c .before .before .wide .ensures .0 ∙ ap (at (a .place .now)) e in
     let P = a .place .now in
     let l = a .label .now in
-    (λ i. record { place = at P (e i); entry = at l (e i); ticket = a .ticket; exit = at l (e i) + at (a .dur .now) (f i); next = at P (e i) })
-    ∙ step-last (a .dur .now) P l (a .path .now) (a .count) (a .k) (a .ticket) (s .pre .0) (s .pre .1) (c .before .before .if1 .left)
+    c .new2 .ensures ∙ (λ i. row (at P (e i)) (at l (e i)) (a .ticket) (at l (e i) + at (a .dur .now) (f i)) (at P (e i)))
+    ∙ step-last (a .dur .now) P l (a .path .now) (a .count) (a .k) (a .ticket) (s .pre .0) (s .pre .1) (c .before .before .before .if1 .left)
 
 pub step-at-spec : {M : Type 1} → statement M
 step-at-spec =
@@ -114,9 +123,11 @@ step-at-spec =
     mul-x
     element-copy-out-x
     element-copy-out-q
+    new-requires
     returns
     wide-requires
     mul-d
     element-copy-out-d
-    add-x
+    add-new
+    new-requires-2
     returns-2)

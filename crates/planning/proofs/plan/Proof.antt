@@ -4,7 +4,8 @@ use lib.ListN.{length}
 use borrow.Author.Needs.{needs}
 use Rattle.laws.specs.Lists.{zeros}
 use Rattle.flatten.specs.Lists.{unmapped}
-use Rattle.desk.specs.Given.{plan-given}
+use Rattle.flatten.specs.Given.{given}
+use Rattle.desk.specs.Transfer.{plan-as}
 use Rattle.planning.proofs.plan.Statement.{statement}
 use Rattle.planning.proofs.plan.Tie as tie
 
@@ -36,7 +37,7 @@ returns c =
     let l = b .before .before .before in
     let p = l .before .before .before in
     let s = p .before .before .before .before in
-    plan-given (p .flat-places .ensures) (l .flat-links .ensures) (long-places s) (long-links s) (b .read-book .ensures) (f .plan-flat .ensures)
+    plan-as (given (p .flat-places .ensures) (l .flat-links .ensures) (long-places s) (long-links s) (b .read-book .ensures)) (f .plan-flat .ensures)
 
 pub plan-spec : {M : Type 1} → statement M
 plan-spec =

@@ -3,7 +3,6 @@
 use mathlib.Core.Path.{refl}
 use borrow.Author.Needs.{needs}
 use Rattle.laws.specs.Lists.{zeros}
-use Rattle.flat.specs.Flat.{rowsIn}
 use Rattle.portal.specs.Read.{portal-page}
 use Rattle.portal.specs.Answers.{paged-few}
 use Rattle.portal.proofs.lanebook_page.Statement.{statement}
@@ -19,10 +18,7 @@ page-flat-requires : tie.Need-page-flat-requires
 page-flat-requires c κs = c .before .before .before .before .before .before .before .read-book .ensures .packed
 
 packed-page-requires : tie.Need-packed-page-requires
-packed-page-requires c κs =
-    let f = c .before .before in
-    let b = f .before .before .before .before .before .before .before .before .read-book in
-    paged-few (rowsIn (b .last .1 .0) (b .last .1 .1 .0) (b .result .count)) (f .page-flat .ensures)
+packed-page-requires c κs = paged-few (c .before .before .page-flat .ensures)
 
 same-length : tie.Need-same-length
 same-length c = search needs

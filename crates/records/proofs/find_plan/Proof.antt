@@ -4,15 +4,16 @@ use Prim.Native.Nat.{ℕ}
 use mathlib.Core.Path.{_≡_}
 use lib.ListN.{length, replicate, length-replicate}
 use borrow.Author.Needs.{needs}
+use Rattle.rules.specs.Bytes.{listSize}
 use Rattle.records.specs.Found.{lent-fits, lent-length, lent-back, plan-readable, plan-front}
 use Rattle.records.proofs.find_plan.Statement.{statement}
 use Rattle.records.proofs.find_plan.Tie as tie
 
 abbrev list : List ℕ
-list = replicate 14080 0
+list = replicate listSize 0
 
-long : length list ≡ 14080
-long = length-replicate {A = ℕ} 14080 0
+long : length list ≡ listSize
+long = length-replicate {A = ℕ} listSize 0
 
 lent-requires : tie.Need-lent-requires
 lent-requires c κs = search needs

@@ -4,7 +4,7 @@ use mathlib.Core.Path.{_≡_}
 use native.Mathlib.Omega.{arith}
 use lib.ListN.{length-replicate}
 use borrow.Author.Needs.{needs}
-use Rattle.rules.specs.Rows.{noRow}
+use Rattle.rules.specs.Limits.{planLimit}
 use Rattle.records.specs.Reading.{RowsRead, none-read, row-read}
 use Rattle.records.proofs.read_rows.Statement.{statement}
 use Rattle.records.proofs.read_rows.Tie as tie
@@ -15,8 +15,11 @@ Inv-loop s count rows₀ j₀ rows j = (j ≤ count) × RowsRead s j rows
 abbrev μ-loop : tie.MeasureT-loop
 μ-loop s count rows₀ j₀ rows j = count - j
 
+none-requires : tie.Need-none-requires Inv-loop μ-loop
+none-requires c κs = search needs
+
 loop-holds : tie.Need-loop-holds Inv-loop μ-loop
-loop-holds c = (omega arith, none-read _ _ (length-replicate 1280 noRow))
+loop-holds c = (omega arith, none-read _ _ (length-replicate planLimit (c .none .result)))
 
 mul-read-row : tie.Need-mul-read-row Inv-loop μ-loop
 mul-read-row c = search needs
@@ -40,7 +43,7 @@ loop-again : tie.Need-loop-again Inv-loop μ-loop
 loop-again c = (omega arith, row-read (c .read-row .result) (c .before .before .loop .inv .1) (omega arith) (c .read-row .ensures))
 
 returns : tie.Need-returns Inv-loop μ-loop
-returns c = let e : c .before .loop .j ≡ c .before .before .before .args .count = omega arith in rw e at (c .before .loop .inv .1)
+returns c = let e : c .before .loop .j ≡ c .before .before .before .before .args .count = omega arith in rw e at (c .before .loop .inv .1)
 
 pub read-rows-spec : {M : Type 1} → statement M
 read-rows-spec =
@@ -48,6 +51,7 @@ read-rows-spec =
     (tie.spec
     Inv-loop
     μ-loop
+    none-requires
     loop-holds
     mul-read-row
     read-row-requires

@@ -1,9 +1,5 @@
 -- `records_show::planned_rows` meets its contract: the rows are written over the marked records.
-use mathlib.Core.Path.{ap}
-use mathlib.Core.List.{List}
 use lib.ListN.{set}
-use Rattle.rules.specs.declared.Row.{Row}
-use Rattle.records_show.specs.Shown.{row}
 use borrow.Author.Needs.{needs}
 use Rattle.records_show.proofs.planned_rows.Statement.{statement}
 use Rattle.records_show.proofs.planned_rows.Tie as tie
@@ -11,24 +7,36 @@ use Rattle.records_show.proofs.planned_rows.Tie as tie
 marked-requires : tie.Need-marked-requires
 marked-requires c κs = search needs
 
+new-requires : tie.Need-new-requires
+new-requires c κs = search needs
+
 array-set-from-rows : tie.Need-array-set-from-rows
 array-set-from-rows c = search needs
 
+new-requires-2 : tie.Need-new-requires-2
+new-requires-2 c κs = search needs
+
 array-set-from-rows-2 : tie.Need-array-set-from-rows-2
 array-set-from-rows-2 c = search needs
+
+new-requires-3 : tie.Need-new-requires-3
+new-requires-3 c κs = search needs
 
 array-set-from-rows-3 : tie.Need-array-set-from-rows-3
 array-set-from-rows-3 c = search needs
 
 returns : tie.Need-returns
-returns c = ap (λ (l : List Row). set (set (set l 0 (row 0 10 0 30 1)) 1 (row 1 30 0 50 3)) 2 (row 3 50 0 60 3)) (c .marked .ensures)
+returns c = λ i. set (set (set (c .before .before .before .marked .ensures i) 0 (c .before .before .new .ensures i)) 1 (c .before .new2 .ensures i)) 2 (c .new3 .ensures i)
 
 pub planned-rows-spec : {M : Type 1} → statement M
 planned-rows-spec =
     tie.close
     (tie.spec
     marked-requires
+    new-requires
     array-set-from-rows
+    new-requires-2
     array-set-from-rows-2
+    new-requires-3
     array-set-from-rows-3
     returns)

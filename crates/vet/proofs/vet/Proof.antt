@@ -9,7 +9,9 @@ map-fits-requires : tie.Need-map-fits-requires
 map-fits-requires c κs = search needs
 
 returns : tie.Need-returns
-returns c = vet-map (c .before .map-fits .ensures) _ _ _ _ _ _ _ _ (not-true _ (c .if1 .taken))
+returns c =
+    let a = c .before .before .before .before .args in
+    vet-map (c .before .map-fits .ensures) (a .key .now) (a .tail .now) _ _ _ _ _ _ (not-true _ (c .if1 .taken))
 
 book-fits-requires : tie.Need-book-fits-requires
 book-fits-requires c κs =
@@ -19,7 +21,9 @@ book-fits-requires c κs =
     (m .kept e, (m .chained e, (P .1 .1 .0, (P .1 .1 .1 .0, (P .1 .1 .1 .1, (P .1 .1 .1 .2, P .1 .1 .1 .3))))))
 
 returns-2 : tie.Need-returns-2
-returns-2 c = vet-book (c .before .before .before .before .before .before .before .before .map-fits .ensures) (not-false _ (c .before .before .before .before .before .before .before .if1 .left)) (c .book-fits .ensures)
+returns-2 c =
+    vet-book (c .before .before .before .before .before .before .before .before .map-fits .ensures) _ _ _ _ _ _ _ _
+    (not-false _ (c .before .before .before .before .before .before .before .if1 .left)) (c .book-fits .ensures)
 
 pub vet-spec : {M : Type 1} → statement M
 vet-spec = tie.close (tie.spec map-fits-requires returns book-fits-requires returns-2)

@@ -1,4 +1,6 @@
 -- `wire::row_at` meets its contract: each field is what the key or the tail at the index gives.
+use mathlib.Core.Path.{refl, _∙_}
+use Rattle.rules.specs.RowLaws.{row-eq}
 use borrow.Author.Needs.{needs}
 use Rattle.wire.proofs.row_at.Statement.{statement}
 use Rattle.wire.proofs.row_at.Tie as tie
@@ -30,12 +32,15 @@ exit-of-requires c κs = search needs
 next-of-requires : tie.Need-next-of-requires
 next-of-requires c κs = search needs
 
+new-requires : tie.Need-new-requires
+new-requires c κs = search needs
+
 returns : tie.Need-returns
 returns c =
-    let p = c .before .before .place-of .ensures in
-    let x = c .before .exit-of .ensures .0 in
-    let n = c .next-of .ensures .0 in
-    cc
+    let p = c .before .before .before .place-of .ensures in
+    let x = c .before .before .exit-of .ensures .0 in
+    let n = c .before .next-of .ensures .0 in
+    c .new .ensures ∙ row-eq p refl refl x n
 
 pub row-at-spec : {M : Type 1} → statement M
 row-at-spec =
@@ -50,4 +55,5 @@ row-at-spec =
     place-of-requires
     exit-of-requires
     next-of-requires
+    new-requires
     returns)
