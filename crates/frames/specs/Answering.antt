@@ -8,16 +8,17 @@ use Rattle.laws.specs.Tests.{not-both}
 use Rattle.rules.specs.declared.State.{State}
 use Rattle.rules.specs.Bytes.{byteAt}
 use Rattle.rules.specs.Frames.{lineOf, frameLength, Said, PlaceFrame, LinkFrame, PlanFrame, BookFrame, CancelFrame, PageFrame}
-use Rattle.frames.specs.declared.Line.{Line}
-use Rattle.frames.specs.declared.Told.{Told}
+use Rattle.rules.specs.declared.Line.{Line}
+use Rattle.rules.specs.declared.Told.{Told}
+use Rattle.rules.specs.Program.{Spoken, Tells}
 use Rattle.frames.specs.declared.Asked.{Asked}
 use Rattle.frames.specs.declared.Form.{Form}
 use Rattle.frames.specs.declared.Word.{Word}
 use Rattle.frames.specs.declared.Decoder.{Decoder}
 use Rattle.frames.specs.declared.Decoder.the-variants.{Place, Link, Plan, Book, Cancel, Page, Nothing}
 use Rattle.frames.specs.Lines.{kindOf, changesBy, FormIs}
-use Rattle.frames.specs.Told.{Spoken, kept}
-use Rattle.frames.specs.Saying.{Tells, Reads, no-frame, other-length, framed-so, place-says, link-says, plan-says, book-says, cancel-says, page-says}
+use Rattle.frames.specs.Told.{kept}
+use Rattle.frames.specs.Saying.{Reads, no-frame, other-length, framed-so, place-says, link-says, plan-says, book-says, cancel-says, page-says}
 
 -- what a line read tells: with each decoder, what its own function answers is what the line answers
 pub record WordIs (l : Line) (w : Word) : Type 0 where

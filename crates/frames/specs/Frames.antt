@@ -26,10 +26,11 @@ use Rattle.rules.specs.Answer.{bookedNumber, bookedTicket, bookedArrival, booke
 use Rattle.rules.specs.Frames.{hexOf, lineOf, rowLines, after00, answerList, bookLines, cancelLines, closedWith, withPlace, withLink, Said}
 use Rattle.rules.specs.Frames.{PlaceFrame, LinkFrame, PlanFrame, BookFrame, CancelFrame, PageFrame}
 use Rattle.frames.specs.declared.Head.{Head}
-use Rattle.frames.specs.declared.Told.{Told}
+use Rattle.rules.specs.declared.Told.{Told}
+use Rattle.rules.specs.Program.{Spoken}
 use Rattle.frames.specs.Put.{line-long, rows-long}
 use Rattle.frames.specs.Heads.{HeadIs}
-use Rattle.frames.specs.Told.{Answers, Spoken, spoken, spoken-so}
+use Rattle.frames.specs.Told.{Answers, spoken, spoken-so}
 
 -- ---- how many rows
 

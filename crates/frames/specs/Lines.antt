@@ -7,22 +7,39 @@ use mathlib.Core.Bool.{Bool, true, false}
 use mathlib.Core.List.{List, [], _∷_, _++_, append-assoc}
 use native.Mathlib.Omega.{arith}
 use native.Mathlib.Numerals.{add-one}
-use lib.ListN.{length, getD, take, set, length-append, length-set}
+use lib.ListN.{length, getD, take, set, replicate, length-append, length-set}
+use lib.Dec.{leb}
 use lib.Seq.{take-suc, take-suc-set, getD-set-same, getD-set-other, getD-take, length-take-le}
-use Rattle.laws.specs.Order.{eq-or-ne}
+use borrow.Author.Tests.{le-leb, lt-leb}
+use Rattle.laws.specs.Order.{lt-or-ge, eq-or-ne}
 use Rattle.rules.specs.Bytes.{byteAt}
 use Rattle.rules.specs.Frames.{digit, hexOf, frameLength}
 use Rattle.unique.specs.Hex.{Value, AreBytes, hex-length, hex-append, hex-at-high, hex-at-low}
 use Rattle.unique.specs.Line.{no-kind}
-use Rattle.frames.specs.declared.Line.{Line}
+use Rattle.rules.specs.declared.Line.{Line}
+use Rattle.rules.specs.Program.{LineIs, emptyLine, pushed}
 use Rattle.frames.specs.declared.Decoder.{Decoder}
 use Rattle.frames.specs.declared.Decoder.the-variants.{Place, Link, Plan, Book, Cancel, Page, Nothing}
 use Rattle.frames.specs.declared.Form.{Form}
 
--- what the buffer stands for: a line of at most 18 bytes, or any longer line
-pub record LineIs (line : List ℕ) (l : Line) : Type 0 where
-  pub short : l .len ≤ 18 → line ≡ take (l .len) (l .digits)
-  pub long : 18 < l .len → 18 < length line
+-- it stands for some line
+pub stands-for : (l : Line) → (line : List ℕ) × LineIs line l
+stands-for l =
+    ⊎-elim
+    (λ (h : 18 < l .len). (replicate 19 0, record { short = λ k. absurd (omega arith); long = λ _. omega arith }))
+    (λ (h : l .len ≤ 18). (take (l .len) (l .digits), record { short = λ _. refl; long = λ k. absurd (omega arith) }))
+    (lt-or-ge 18 (l .len))
+
+pub empty-line : LineIs [] emptyLine
+empty-line = record { short = λ _. refl; long = λ k. absurd (omega arith) }
+
+pub pushed-short : (l : Line) (c : ℕ) → l .len < 18 → record { digits = set (l .digits) (l .len) c; len = l .len + 1 } ≡ pushed l c
+unfolding pushed
+pushed-short l c h = rw (lt-leb 18 (l .len) h, pushed)
+
+pub pushed-full : (l : Line) (c : ℕ) → 18 ≤ l .len → record { digits = l .digits; len = 19 } ≡ pushed l c
+unfolding pushed
+pushed-full l c h = rw (le-leb 18 (l .len) h, pushed)
 
 pub push-short : (l : Line) (c : ℕ) → length (l .digits) ≡ 18 → l .len < 18 → (line : List ℕ) → LineIs line l
     → LineIs (line ++ (c ∷ [])) (record { digits = set (l .digits) (l .len) c; len = l .len + 1 })

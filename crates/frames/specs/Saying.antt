@@ -13,18 +13,10 @@ use Rattle.rules.specs.Bytes.{byteAt, placeSize, linkSize, answerRoom}
 use Rattle.rules.specs.Gate.{Unless}
 use Rattle.rules.specs.Frames.{lineOf, lengthBy, frameLength, Frame, Said, PlaceFrame, LinkFrame, PlanFrame, BookFrame, CancelFrame, PageFrame, FrameSays, LineSays}
 use Rattle.unique.specs.Hex.{AreBytes, hex-injective}
-use Rattle.frames.specs.declared.Line.{Line}
-use Rattle.frames.specs.declared.Told.{Told}
-use Rattle.frames.specs.Lines.{LineIs, Decoded}
-use Rattle.frames.specs.Told.{Spoken, Silent}
-
--- for each line that the buffer stands for
-abbrev pub Tells : State → Line → State → List ℕ → Type 0
-Tells s l s′ said = (line : List ℕ) → LineIs line l → LineSays s line s′ said
-
--- every answer fits into answerRoom bytes: a shorter list is left as it is, and the state too
-abbrev pub AnswerIs : State → Line → List ℕ → List ℕ → Told → Type 0
-AnswerIs s l was out r = Unless (answerRoom ≤ length was) (Silent s was out r) (Spoken (Tells s l) was out r)
+use Rattle.rules.specs.declared.Line.{Line}
+use Rattle.rules.specs.declared.Told.{Told}
+use Rattle.rules.specs.Program.{LineIs, Silent, Spoken, Tells}
+use Rattle.frames.specs.Lines.{Decoded}
 
 abbrev pub Reads : Line → List ℕ → ℕ → Type 0
 Reads l bytes n = (line : List ℕ) → LineIs line l → Decoded line bytes n

@@ -8,7 +8,8 @@ use lib.ListN.{length, take, drop, length-append}
 use Rattle.rules.specs.declared.State.{State}
 use Rattle.rules.specs.Bytes.{rowSize, rowLine, answerRoom}
 use Rattle.rules.specs.Frames.{lineOf, rowLines}
-use Rattle.frames.specs.declared.Told.{Told}
+use Rattle.rules.specs.declared.Told.{Told}
+use Rattle.rules.specs.Program.{Silent, Spoken}
 use Rattle.frames.specs.Put.{Put, RowsPut, put-more, put-front, put-rest, line-long, rows-long}
 
 -- these bytes, so many of them
@@ -16,22 +17,9 @@ pub record Answers (said was out : List ℕ) (len : ℕ) : Type 0 where
   pub put : Put said 0 was out
   pub count : len ≡ length said
 
--- the state after and the bytes printed are as P says
-pub record Spoken (P : State → List ℕ → Type 0) (was out : List ℕ) (r : Told) : Type 0 where
-  pub says : P (r .state) (take (r .len) out)
-  pub kept : drop (r .len) out ≡ drop (r .len) was
-  pub fits : r .len ≤ answerRoom
-  pub long : length out ≡ length was
-
 -- map and book as they were
 abbrev pub kept : State → Bool → ℕ → Told
 kept s closed len = record { state = record { map = s .map; book = s .book; closed = closed }; len = len }
-
--- nothing is said and nothing changes
-pub record Silent (s : State) (was out : List ℕ) (r : Told) : Type 0 where
-  pub stays : r .state ≡ s
-  pub none : r .len ≡ 0
-  pub same : out ≡ was
 
 pub silent : (s : State) (was : List ℕ) → Silent s was was (record { state = s; len = 0 })
 silent s was = record { stays = refl; none = refl; same = refl }

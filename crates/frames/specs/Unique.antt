@@ -1,31 +1,23 @@
--- No second answer: the state after a line, the bytes printed and the whole list are fixed, for every state, line and list.
+-- No second answer: the state after a line, the bytes printed and the whole list are fixed, for every state, line and list; of `fed` also where it stops,
+-- and every digit of the line that is begun.
 use Prim.Native.Nat.{ℕ, _≤_, _<_}
 use mathlib.Core.Path.{_≡_, refl, sym, ap, ap₂, _∙_}
 use mathlib.Core.Logic.{⊎-elim}
 use mathlib.Core.List.{List, _++_}
 use native.Mathlib.Omega.{arith}
-use lib.ListN.{length, take, drop, replicate, take-append-drop}
-use lib.Seq.{length-take-le}
+use lib.ListN.{length, take, drop, take-append-drop}
+use lib.Seq.{slice, length-take-le}
 use Rattle.laws.specs.Order.{lt-or-ge}
 use Rattle.rules.specs.declared.State.{State}
 use Rattle.rules.specs.Bytes.{answerRoom}
 use Rattle.rules.specs.GateLaws.{both}
 use Rattle.unique.specs.Line.{no-second-line, no-second-lines}
-use Rattle.frames.specs.declared.Line.{Line}
-use Rattle.frames.specs.declared.Desk.{Desk}
-use Rattle.frames.specs.declared.Told.{Told}
-use Rattle.frames.specs.Lines.{LineIs}
-use Rattle.frames.specs.Told.{Spoken, Silent}
-use Rattle.frames.specs.Saying.{Tells, AnswerIs}
-use Rattle.frames.specs.Cutting.{Ends, EndedIs}
-
--- the buffer stands for some line
-pub stands-for : (l : Line) → (line : List ℕ) × LineIs line l
-stands-for l =
-    ⊎-elim
-    (λ (h : 18 < l .len). (replicate 19 0, record { short = λ k. absurd (omega arith); long = λ _. omega arith }))
-    (λ (h : l .len ≤ 18). (take (l .len) (l .digits), record { short = λ _. refl; long = λ k. absurd (omega arith) }))
-    (lt-or-ge 18 (l .len))
+use Rattle.rules.specs.declared.Line.{Line}
+use Rattle.rules.specs.declared.Desk.{Desk}
+use Rattle.rules.specs.declared.Intake.{Intake}
+use Rattle.rules.specs.declared.Told.{Told}
+use Rattle.rules.specs.Program.{AnswerIs, EndedIs, Ends, FedIs, Silent, Spoken, Tells, lineAfter}
+use Rattle.frames.specs.Lines.{stands-for}
 
 module _ {was out out′ : List ℕ} {r r′ : Told} where
   silent-same : {s : State} → Silent s was out r → Silent s was out′ r′ → (r ≡ r′) × (out ≡ out′)
@@ -56,3 +48,33 @@ module _ {was out out′ : List ℕ} {r r′ : Told} where
   no-second-ending {d} =
       let x = stands-for (d .line) in
       both silent-same (λ h. spoken-same {P = Ends d} (λ p q. no-second-lines (p (x .0) (x .1)) (q (x .0) (x .1))) h)
+
+module _ {d : Desk} {buf : List ℕ} {from : ℕ} {was out out′ : List ℕ} {r r′ : Intake} where
+  -- where one stops before the bytes end there is no room, so the other takes no byte there either
+  no-further : FedIs d buf from was out r → FedIs d buf from was out′ r′ → r′ .upto ≤ r .upto
+  no-further p q = ⊎-elim (λ (h : r .upto < r′ .upto). absurd (stopped h)) (λ (h : r′ .upto ≤ r .upto). h) (lt-or-ge (r .upto) (r′ .upto))
+    where
+      in-bytes : r .upto < r′ .upto → from < length buf
+      in-bytes h =
+          ⊎-elim (λ (k : from < length buf). k) (λ (k : length buf ≤ from). absurd (omega (arith, p .after, q .stays (λ _ m. omega arith) .1))) (lt-or-ge from (length buf))
+
+      stopped : r .upto < r′ .upto → ⊥
+      stopped h =
+          let k = in-bytes h in
+          let w = q .within (omega arith) in
+          let n = length-take-le (r .len) out (omega (arith, p .fits, p .long)) in
+          omega (arith, p .stops (omega arith), q .room (r .upto) (p .after) h (r .desk) (take (r .len) out) (p .feeds))
+
+module _ {d : Desk} {buf : List ℕ} {from : ℕ} {was out out′ : List ℕ} {r r′ : Intake} where
+  pub no-second-feeding : FedIs d buf from was out r → FedIs d buf from was out′ r′ → (r ≡ r′) × (out ≡ out′)
+  no-second-feeding p q =
+      let x = stands-for (d .line) in
+      let u : r .upto ≡ r′ .upto = omega (arith, no-further p q, no-further q p) in
+      let e = no-second-lines (p .feeds .says (x .0) (x .1)) (rw (sym u) at (q .feeds .says (x .0) (x .1))) in
+      let a = e .0 in
+      let l : r .desk .line ≡ r′ .desk .line = p .feeds .line ∙ ap (λ (k : ℕ). lineAfter (d .line) (slice from k buf)) u ∙ sym (q .feeds .line) in
+      let m = length-take-le (r .len) out (omega (arith, p .fits, p .long)) in
+      let n = length-take-le (r′ .len) out′ (omega (arith, q .fits, q .long)) in
+      let b : r .len ≡ r′ .len = sym m ∙ ap length (e .1) ∙ n in
+      let c : drop (r .len) out ≡ drop (r′ .len) out′ = p .kept ∙ ap (λ (k : ℕ). drop k was) b ∙ sym (q .kept) in
+      (λ i. record { desk = record { state = a i; line = l i }; upto = u i; len = b i }, sym (take-append-drop (r .len) out) ∙ ap₂ _++_ (e .1) c ∙ take-append-drop (r′ .len) out′)

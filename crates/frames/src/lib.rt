@@ -3,6 +3,9 @@ use rules::Book;
 use rules::Booked;
 use rules::Cancelled;
 use rules::Cursor;
+use rules::Desk;
+use rules::Intake;
+use rules::Line;
 use rules::Link;
 use rules::Map;
 use rules::Paged;
@@ -11,6 +14,7 @@ use rules::Planned;
 use rules::Refusal;
 use rules::Row;
 use rules::State;
+use rules::Told;
 ghost use mathlib.Core.Path.{_≡_};
 ghost use mathlib.Core.Bool.{true};
 ghost use Prim.Native.Nat.{ℕ, _+_, _*_, _%_, _<_, _≤_};
@@ -21,45 +25,39 @@ ghost use Rattle.rules.specs.Bytes.{bytes2, bytes3, rowSize, rowLine, answerRoo
 ghost use Rattle.rules.specs.Answer.{number, plannedNumber, plannedArrival, plannedCount, pagedNumber, pagedCount, pagedMore};
 ghost use Rattle.rules.specs.Answer.{bookedNumber, bookedTicket, bookedArrival, bookedCount, cancelledNumber, cancelledCount};
 ghost use Rattle.rules.specs.Frames.{digit, hexOf, lineOf, rowLines, after00, closedWith, Said, PlaceFrame, LinkFrame, PlanFrame, BookFrame, CancelFrame, PageFrame, begins};
+ghost use Rattle.rules.specs.Program.{AnswerIs, EndedIs, FedIs, LineIs, Spoken, emptyLine, pushed};
 ghost use Rattle.unique.specs.Hex.{Value};
-ghost use Rattle.frames.specs.Lines.{LineIs, Decoded, FormIs, changesBy};
+ghost use Rattle.frames.specs.Lines.{Decoded, FormIs, changesBy};
 ghost use Rattle.frames.specs.Heads.{HeadIs};
-ghost use Rattle.frames.specs.Told.{Answers, Spoken, kept};
-ghost use Rattle.frames.specs.Saying.{AnswerIs};
+ghost use Rattle.frames.specs.Told.{Answers, kept};
 ghost use Rattle.frames.specs.Answering.{WordIs, OrderIs, AskedIs};
-ghost use Rattle.frames.specs.Cutting.{CutIs, FedIs, EndedIs};
+ghost use Rattle.frames.specs.Cutting.{CutIs};
 ghost use Rattle.frames.specs.Put.{Put, Digits, RowsPut};
 
-// The digits of a line, of which a frame has at most 18: len 19 stands for any longer line.
-pub struct Line {
-    pub digits: [u8; 18],
-    pub len: usize,
+// ---- a line
+
+fn no_digits() -> Line
+    ensures { λ r. ⌜ r ≡ emptyLine ⌝ }
+{
+    Line {
+        digits: [0; 18],
+        len: 0,
+    }
 }
 
-impl Line {
-    pub fn empty() -> Self
-        ensures { λ r. ⌜ LineIs [] r ⌝ }
-    {
-        Line {
-            digits: [0; 18],
-            len: 0,
-        }
+// The line with one byte more.
+fn push(l: Line, c: u8) -> Line
+    ensures { λ r. ⌜ (r ≡ pushed l c) × ((line : List ℕ) → LineIs line l → LineIs (line ++ (c ∷ [])) r) ⌝ }
+{
+    let mut more = l;
+    let at = more.len;
+    if at >= 18 {
+        more.len = 19;
+        return more;
     }
-
-    // The line with one byte more.
-    pub fn push(self, c: u8) -> Self
-        ensures { λ r. ⌜ ((line : List ℕ) → LineIs line self → LineIs (line ++ (c ∷ [])) r) ⌝ }
-    {
-        let mut l = self;
-        let at = l.len;
-        if at >= 18 {
-            l.len = 19;
-            return l;
-        }
-        l.digits[at] = c;
-        l.len = at + 1;
-        l
-    }
+    more.digits[at] = c;
+    more.len = at + 1;
+    more
 }
 
 // ---- a line's bytes
@@ -420,12 +418,6 @@ fn put_answer(h: Head, list: &[u8], rows: usize, out: &mut [u8]) -> usize
 
 // ---- frames
 
-// The state after a line, and how many bytes of its answer are in the caller's list.
-pub struct Told {
-    pub state: State,
-    pub len: usize,
-}
-
 // A line of one byte.
 fn put_number(x: u8, out: &mut [u8]) -> usize
     requires { ⌜ 3 ≤ length (now out) ⌝ }
@@ -694,12 +686,6 @@ pub fn answer(s: State, l: Line, out: &mut [u8]) -> Told
 
 // ---- input cut into lines
 
-// What stands between two reads: the state, and the line that is begun.
-pub struct Desk {
-    pub state: State,
-    pub line: Line,
-}
-
 // The line as far as the bytes reach: to its line feed, or to their end.
 struct Cut {
     line: Line,
@@ -722,7 +708,7 @@ fn take_line(l: Line, buf: &[u8], from: usize) -> Cut
                 ended: true,
             };
         }
-        line = line.push(c);
+        line = push(line, c);
         i += 1;
     }
     Cut {
@@ -730,13 +716,6 @@ fn take_line(l: Line, buf: &[u8], from: usize) -> Cut
         upto: i,
         ended: false,
     }
-}
-
-// How far the bytes are taken, and how many bytes of answers are in the caller's list.
-pub struct Intake {
-    pub desk: Desk,
-    pub upto: usize,
-    pub len: usize,
 }
 
 // The answers of the lines that the bytes from an index on end, as long as the caller's list has room for one more. A line that leaves map and book
@@ -773,7 +752,7 @@ pub fn fed(d: Desk, buf: &[u8], from: usize, out: &mut [u8]) -> Intake
         }
         let w = word_of(taken);
         let decoder = w.decoder;
-        let next = Line::empty();
+        let next = no_digits();
         if changes(decoder) {
             let t = order(s, w, &mut out[at..]);
             let after = t.state;
@@ -818,29 +797,27 @@ pub fn ended(d: Desk, out: &mut [u8]) -> Told
     }
 }
 
-impl Desk {
-    // "`lanebook` begins with no places, no links and an empty book whose next ticket is 1."
-    pub fn first() -> Self
-        ensures { λ r. ⌜ (r .state ≡ begins) × LineIs [] (r .line) ⌝ }
-    {
-        let place = Place {
-            capacity: 0,
-            duration: 0,
-        };
-        let link = Link { from: 0, to: 0 };
-        let m = Map {
-            places: [place; Map::PLACES],
-            links: [link; Map::LINKS],
-            place_count: 0,
-            link_count: 0,
-        };
-        let b = ledger::empty_book();
-        let s = State {
-            map: m,
-            book: b,
-            closed: false,
-        };
-        let l = Line::empty();
-        Desk { state: s, line: l }
-    }
+// "`lanebook` begins with no places, no links and an empty book whose next ticket is 1."
+pub fn first_desk() -> Desk
+    ensures { λ r. ⌜ (r .state ≡ begins) × (r .line ≡ emptyLine) ⌝ }
+{
+    let place = Place {
+        capacity: 0,
+        duration: 0,
+    };
+    let link = Link { from: 0, to: 0 };
+    let m = Map {
+        places: [place; Map::PLACES],
+        links: [link; Map::LINKS],
+        place_count: 0,
+        link_count: 0,
+    };
+    let b = ledger::empty_book();
+    let s = State {
+        map: m,
+        book: b,
+        closed: false,
+    };
+    let l = no_digits();
+    Desk { state: s, line: l }
 }

@@ -7,10 +7,11 @@ use mathlib.Core.Logic.{⊎-elim}
 use native.Mathlib.Omega.{arith}
 use lib.ListN.{length, take}
 use lib.Seq.{slice, slice-empty, take-all}
-use Rattle.frames.specs.declared.Desk.{Desk}
-use Rattle.frames.specs.declared.Intake.{Intake}
-use Rattle.frames.specs.declared.Told.{Told}
-use Rattle.frames.specs.Cutting.{Feeds, feeds-none, feeds-append, FedIs, EndedIs, slice-join}
+use Rattle.rules.specs.declared.Desk.{Desk}
+use Rattle.rules.specs.declared.Intake.{Intake}
+use Rattle.rules.specs.declared.Told.{Told}
+use Rattle.rules.specs.Program.{EndedIs, FedIs, Feeds}
+use Rattle.frames.specs.Cutting.{feeds-none, feeds-append, slice-join}
 use Rattle.lanebook.specs.declared.Turn.{Turn}
 
 -- the bytes to index i are taken, with these answers

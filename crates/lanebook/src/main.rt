@@ -1,7 +1,7 @@
 // Reads frames from standard input and writes their answers: those of all whole lines read so far are written before it reads again.
-use frames::Desk;
 use libc::STDIN_FILENO;
 use libc::STDOUT_FILENO;
+use rules::Desk;
 ghost use Prim.Native.Nat.{_≤_};
 ghost use lib.ListN.{length};
 ghost use Rattle.rules.specs.Bytes.{answerRoom};
@@ -71,7 +71,7 @@ fn sit(d: Desk, buf: &mut [u8], out: &mut [u8]) -> Turn
 fn run(buf: &mut [u8], out: &mut [u8])
     requires { ⌜ answerRoom ≤ length (now out) ⌝ }
 {
-    let d = Desk::first();
+    let d = frames::first_desk();
     let mut t = Turn { desk: d, on: true };
     let mut turns = u64::MAX;
     while turns > 0 && t.on {

@@ -13,9 +13,9 @@ use Rattle.laws.specs.Order.{lt-or-ge}
 use Rattle.rules.specs.Window.{Window, Span, Enters, Earliest}
 use Rattle.lanes.specs.Yards.{YardRules}
 use Rattle.lanes.specs.Stays.{arrival-last, arrival-cons}
-use Rattle.lanes.specs.Windows.{stay-in}
 use Rattle.lanes.specs.Reach.{Reach, begin, go, plan-reach, Enter, Soonest}
 use Rattle.lanes.specs.Made.{alone, in-front}
+use Rattle.lanes.specs.Beginning.{stay-lies}
 
 module _ (Y : Yard) (B : List Row) (start s : ℕ) where
   -- the window that a plan's last stay enters
@@ -31,20 +31,13 @@ module _ (Y : Yard) (B : List Row) (start s : ℕ) where
       let i = length plan - 1 in
       let e : suc i ≡ length plan = omega (arith, P .run .some) in
       let h : i < length plan = omega arith in
-      let v = stay-in P i h in
+      let l = stay-lies P i h in
       let q : (stayAt plan i) .place ≡ dest = P .last-place i e in
       record {
-        w = record { place = (stayAt plan i) .place; from = v .start; to = v .end };
+        w = l .window;
         entry = (stayAt plan i) .entry;
-        at-dest = q;
-        enters = record {
-          window = v .window;
-          from = v .from;
-          to = omega (arith, v .to, P .run .last-exact i e);
-          plan = plan;
-          permitted = rw q P;
-          entered = λ j k. ap (λ (x : ℕ). (stayAt plan x) .entry) (let z : j ≡ i = omega arith in z);
-        };
+        at-dest = l .at ∙ q;
+        enters = l .enters;
         end = arrival-last plan i e ∙ P .run .last-exact i e ∙ ap (λ p. (stayAt plan i) .entry + Y .dur p) q;
       }
 

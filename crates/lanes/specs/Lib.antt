@@ -3,6 +3,7 @@ pub mod Stays
 pub mod Windows
 pub mod Reach
 pub mod Made
+pub mod Beginning
 pub mod Nodes
 pub mod Best
 pub mod Entries

@@ -14,3 +14,5 @@ pub mod GateLaws
 pub mod Answer
 pub mod Portal
 pub mod Frames
+pub mod Program
+pub mod Walk

@@ -1,4 +1,4 @@
--- Rows: keys and their order, the load of a place, crossings.
+-- Rows: keys and their order, the load of a place, crossings and what bars them.
 use Prim.Native.Nat.{ℕ, _+_, _<_}
 use mathlib.Core.Path.{_≡_}
 use mathlib.Core.Bool.{Bool, true, false, _&&_, _||_}

@@ -315,6 +315,31 @@ pub struct State {
     pub closed: bool,
 }
 
+// The digits of a line, of which a frame has at most 18: len 19 stands for any longer line.
+pub struct Line {
+    pub digits: [u8; 18],
+    pub len: usize,
+}
+
+// The state after a line, and how many bytes of its answer are in the caller's list.
+pub struct Told {
+    pub state: State,
+    pub len: usize,
+}
+
+// What stands between two reads: the state, and the line that is begun.
+pub struct Desk {
+    pub state: State,
+    pub line: Line,
+}
+
+// How far the bytes are taken, and how many bytes of answers are in the caller's list.
+pub struct Intake {
+    pub desk: Desk,
+    pub upto: usize,
+    pub len: usize,
+}
+
 // The limits above, which are those of the definitions.
 pub struct Limits {
     pub day: u32,

@@ -29,8 +29,8 @@ use Rattle.keeping.specs.Keeping.{cancel-rows, rows-cancel}
 use Rattle.keeping.specs.Loads.{load-all, load-keep}
 use Rattle.keeping.specs.Unbarred.{clear-fewer, run-clear}
 use Rattle.lanes.specs.Yards.{YardRules}
-use Rattle.walks.specs.Walk.{Others}
-use Rattle.walks.specs.Walk.Others.{rests, plans, books, cancels, looks}
+use Rattle.rules.specs.Walk.{Others}
+use Rattle.rules.specs.Walk.Others.{rests, plans, books, cancels, looks}
 
 module _ (p t : ℕ) where
   split-choose : (b : Bool) (x : Row) (l other mine : List Row) → load l p t ≡ load other p t + load mine p t

@@ -6,7 +6,7 @@ use Prim.Native.Nat.{ℕ, suc, _+_, _≤_, _<_}
 use mathlib.Core.Path.{_≡_, sym, ap, subst, _∙_}
 use mathlib.Core.Logic.{_⊎_, inl, inr, ⊎-elim}
 use mathlib.Core.Bool.{Bool}
-use mathlib.Core.List.{List, [], _∷_, List·Memᴰ}
+use mathlib.Core.List.{List, [], _∷_, _++_, List·Memᴰ}
 use native.Mathlib.Omega.{arith}
 use lib.ListN.{length}
 use Rattle.rules.specs.declared.Map.{Map}
@@ -20,7 +20,7 @@ use Rattle.rules.specs.declared.Cancelling.{Cancelling}
 use Rattle.rules.specs.Limits.{day}
 use Rattle.rules.specs.Map.{Yard, GoodMap, mapYard}
 use Rattle.rules.specs.Rows.{Key, firstKey, load, keep, insertAll}
-use Rattle.rules.specs.Plan.{Stay, Permitted, arrival, runRows}
+use Rattle.rules.specs.Plan.{Stay, stayAt, Permitted, arrival, runRows}
 use Rattle.rules.specs.Book.{GoodBook, Whole, rowsOf, bookOf, ofTicket, otherTicket}
 use Rattle.rules.specs.Page.{pageRows, pageMore, lastKey}
 use Rattle.rules.specs.Chosen.{Chosen}
@@ -29,11 +29,12 @@ use Rattle.rules.specs.Gate.{papersOf}
 use Rattle.rules.specs.GateLaws.{unless, past, checked, passed}
 use Rattle.rules.specs.Answer.{over, PlanIs, PlanRecords, Planning, plannedNumber, plannedArrival, plannedCount, BookIs, BookingIs, bookedNumber, bookedTicket, bookedArrival, bookedCount, CancelIs, CancellingIs, Known, cancelledNumber, PageIs, PageRecords, PagingIs, pagedNumber}
 use Rattle.lanes.specs.Yards.{yard-rules}
+use Rattle.lanes.specs.Beginning.{beginning, beginning-permitted, beginning-entry, Lies, stay-lies}
 use Rattle.lanes.specs.Chosen.{chosen-best}
 use Rattle.keeping.specs.Calls.{empty-good, booking-good, cancelling-good}
 use Rattle.keeping.specs.Books.{rows-of-book}
 use Rattle.keeping.specs.Keeping.{row-ranges, book-rows, rows-book, cancel-rows, rows-cancel}
-use Rattle.walks.specs.Walk.{Others, Walk, Walked}
+use Rattle.rules.specs.Walk.{Others, Walk, Walked}
 use Rattle.walks.specs.WalkLaws.{others-good, walked}
 use Rattle.theorems.specs.Program.{begins-sound, lines-sound, not-02}
 use Rattle.theorems.specs.Freed.{load-split, fewer-permit, PermittedRun, run-permitted, cancelling-next, others-next}
@@ -41,12 +42,13 @@ use Rattle.rules.specs.Portal.{PortalPlan, PortalPage}
 use Rattle.rules.specs.Frames.{lineOf, LineSays, LinesSay, allLines, begins}
 use Rattle.unique.specs.Unique.{no-second-plan, no-second-booking, no-second-cancelling, no-second-page, no-second-portal-plan, no-second-portal-page}
 use Rattle.unique.specs.Line.{no-second-line, no-second-lines}
-use Rattle.frames.specs.declared.Line.{Line}
-use Rattle.frames.specs.declared.Desk.{Desk}
-use Rattle.frames.specs.declared.Told.{Told}
-use Rattle.frames.specs.Saying.{AnswerIs}
-use Rattle.frames.specs.Cutting.{EndedIs}
-use Rattle.frames.specs.Unique.{no-second-answer, no-second-ending}
+use Rattle.rules.specs.declared.Line.{Line}
+use Rattle.rules.specs.declared.Desk.{Desk}
+use Rattle.rules.specs.declared.Intake.{Intake}
+use Rattle.rules.specs.declared.Told.{Told}
+use Rattle.rules.specs.Program.{AnswerIs, EndedIs, Ends, FedIs, LineIs, Sitting, joined}
+use Rattle.frames.specs.Cutting.{whole-output}
+use Rattle.frames.specs.Unique.{no-second-answer, no-second-feeding, no-second-ending}
 
 -- ---- demand 2: "the plan given overfills no place, meets no booked wagon in a head-on exchange, and no permitted plan arrives sooner"
 
@@ -91,6 +93,21 @@ module _ {m : Map} {b : Book} {start dest s : ℕ} {was out : List ℕ} {r : Pla
     where
       left : {n a c : ℕ} → Planning n a c was out r → out ≡ was
       left x = x .holds
+
+-- ---- "the least second at which any permitted plan's beginning can enter it": "the beginning is itself a permitted plan to the window's place whose last
+-- stay enters there (`Enters` in rules/specs/Window.antt); a longer plan's beginning, cut to its place's duration, is such a plan"
+-- `beginning` (lanes/specs/Beginning.antt) is the plan up to stay i, that stay cut to its duration. Nothing is asked of the map or of the book.
+
+module _ {Y : Yard} {rows : List Row} {start dest s : ℕ} {plan : List Stay} (P : Permitted Y rows start dest s plan) (i : ℕ) (h : i < length plan) where
+  pub a-beginning-is-permitted : Permitted Y rows start ((stayAt plan i) .place) s (beginning Y plan i)
+  a-beginning-is-permitted = beginning-permitted P i h
+
+  pub a-beginning-enters-when-the-plan-does : (j : ℕ) → suc j ≡ length (beginning Y plan i) → (stayAt (beginning Y plan i) j) .entry ≡ (stayAt plan i) .entry
+  a-beginning-enters-when-the-plan-does = beginning-entry P i h
+
+  -- so each stay of a permitted plan lies in a window that the plan's beginning enters at the stay's entry
+  pub each-stay-lies-in-a-window : Lies Y rows start s plan i
+  each-stay-lies-in-a-window = stay-lies P i h
 
 -- ---- demand 2: "Booking adds that plan's rows only"
 
@@ -222,7 +239,7 @@ a-booking-keeps-it-good = booking-good
 pub a-cancellation-keeps-it-good : {m : Map} {b : Book} {ticket : ℕ} {r : Cancelling} → CancelIs m b ticket r → GoodBook (mapYard m) b → GoodBook (mapYard m) (r .book)
 a-cancellation-keeps-it-good = cancelling-good
 
--- over any calls in any order, refused ones too: `Others` (walks/specs/Walk.antt) lists them
+-- over any calls in any order, refused ones too: `Others` (rules/specs/Walk.antt) lists them
 pub the-book-is-always-good : {m : Map} {b : Book} → Others m (bookOf [] 1) b → GoodBook (mapYard m) b
 the-book-is-always-good {m} calls = others-good calls (the-empty-book-is-good (mapYard m))
 
@@ -234,7 +251,7 @@ pub lanebook-never-answers-2 : {s s′ : State} {lines : List (List ℕ)} {said 
 lanebook-never-answers-2 L = not-02 (lines-sound L begins-sound)
 
 -- ---- demand 3: "Take a walk over one book from the first cursor to a page that says no more .. while others plan, book and cancel between pages."
--- `Walked` (walks/specs/Walk.antt) has its five sentences.
+-- `Walked` (rules/specs/Walk.antt) has its five sentences.
 
 pub every-walk-is-true : {m : Map} {b : Book} (w : Walk m firstKey b) → Walked w
 every-walk-is-true = walked
@@ -266,15 +283,27 @@ one-portal-plan {map} {book} {start} {dest} {s} {was} {out} {out′} {r} {r′} 
 pub one-portal-page : {map book : List ℕ} {size : ℕ} {k : Key} {was out out′ : List ℕ} {r r′ : ℕ} → PortalPage map book size k was out r → PortalPage map book size k was out′ r′ → (r ≡ r′) × (out ≡ out′)
 one-portal-page {map} {book} {size} {k} {was} {out} {out′} {r} {r′} = no-second-portal-page map book size k was out out′ r r′
 
--- a line of the program's input, all its lines, and the program's two answering calls
-pub one-line : {s s₁ s₂ : State} {line said₁ said₂ : List ℕ} → LineSays s line s₁ said₁ → LineSays s line s₂ said₂ → (s₁ ≡ s₂) × (said₁ ≡ said₂)
-one-line = no-second-line
+-- ---- the program: however its input is cut into reads, its output is what the lines of the whole input say, one after the other, and that is one output
+
+-- The desk begins with the state `begins` and no line begun (`frames::first_desk`). It is fed the reads one after the other, and their answers together are `said`
+-- (`Sitting`); the answer to a last line that lacks its line feed is `last`, empty where there is none (`Ends`).
+pub the-output-is-what-the-lines-say : {d e : Desk} {s : State} {reads : List (List ℕ)} {said last : List ℕ} → d .state ≡ begins → LineIs [] (d .line)
+    → Sitting d reads e said → Ends e s last → LinesSay begins (allLines (joined reads)) s (said ++ last)
+the-output-is-what-the-lines-say = whole-output
 
 pub one-output : (input : List ℕ) {s₁ s₂ : State} {said₁ said₂ : List ℕ} → LinesSay begins (allLines input) s₁ said₁ → LinesSay begins (allLines input) s₂ said₂ → (s₁ ≡ s₂) × (said₁ ≡ said₂)
 one-output input = no-second-lines
 
+-- no second answer to a line, nor from the three calls that answer: one line, the lines that a read ends, the last line
+pub one-line : {s s₁ s₂ : State} {line said₁ said₂ : List ℕ} → LineSays s line s₁ said₁ → LineSays s line s₂ said₂ → (s₁ ≡ s₂) × (said₁ ≡ said₂)
+one-line = no-second-line
+
 pub one-answer : {s : State} {l : Line} {was out out′ : List ℕ} {r r′ : Told} → AnswerIs s l was out r → AnswerIs s l was out′ r′ → (r ≡ r′) × (out ≡ out′)
 one-answer = no-second-answer
+
+-- where `fed` stops is fixed too: at the end of the bytes, or at the first byte where the answers leave no room for one more
+pub one-feeding : {d : Desk} {buf : List ℕ} {from : ℕ} {was out out′ : List ℕ} {r r′ : Intake} → FedIs d buf from was out r → FedIs d buf from was out′ r′ → (r ≡ r′) × (out ≡ out′)
+one-feeding = no-second-feeding
 
 pub one-ending : {d : Desk} {was out out′ : List ℕ} {r r′ : Told} → EndedIs d was out r → EndedIs d was out′ r′ → (r ≡ r′) × (out ≡ out′)
 one-ending = no-second-ending

@@ -37,9 +37,9 @@ use Rattle.keeping.specs.Runs.{run-length}
 use Rattle.keeping.specs.Keeping.{row-ranges, row-fits}
 use Rattle.keeping.specs.Books.{rows-of-book}
 use Rattle.keeping.specs.Calls.{booking-good, cancelling-good}
-use Rattle.walks.specs.Walk.{Page, Others, Walk, showsOf, pages, shown, bookedBy, booked, pageAt, Stood, Walked}
-use Rattle.walks.specs.Walk.Others.{rests, plans, books, cancels, looks}
-use Rattle.walks.specs.Walk.Walk.{ends, goes}
+use Rattle.rules.specs.Walk.{Page, Others, Walk, showsOf, pages, shown, bookedBy, booked, pageAt, Stood, Walked}
+use Rattle.rules.specs.Walk.Others.{rests, plans, books, cancels, looks}
+use Rattle.rules.specs.Walk.Walk.{ends, goes}
 use Rattle.walks.specs.Counts.{keep-less, keep-keep, keep-all}
 
 -- ---- one page

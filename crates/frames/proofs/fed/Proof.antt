@@ -47,8 +47,8 @@ returns-2 c =
 word-of-requires : tie.Need-word-of-requires Inv-loop μ-loop
 word-of-requires c κs = search needs
 
-empty-requires : tie.Need-empty-requires Inv-loop μ-loop
-empty-requires c κs = search needs
+no-digits-requires : tie.Need-no-digits-requires Inv-loop μ-loop
+no-digits-requires c κs = search needs
 
 changes-requires : tie.Need-changes-requires Inv-loop μ-loop
 changes-requires c κs = search needs
@@ -85,7 +85,7 @@ loop-again c =
     let a = k .ensures (sym (c .before .before .before .before .before .before .before .changes .ensures) ∙ c .before .before .before .before .before .before .if3 .taken) _ (c .before .before .before .before .before .before .before .before .before .word-of .ensures) in
     let r = c .before .before .before .before .before .before .before .before .before .before .before .before .before .before .if1 .left in
     feeding-next (l .inv) (c .before .before .before .before .before .before .before .before .before .before .before .before .before .before .before .loop-test .taken) (omega (arith, r, l .inv .fits, l .inv .put .long))
-    (step-answered _ _ _ _ _ (k .last .1 .1 .0) (t .ensures) (not-false (t .result .ended) (c .before .before .before .before .before .before .before .before .before .before .if2 .left)) (omega (arith, r, l .inv .fits, l .inv .put .long)) a (c .before .before .before .before .before .before .before .before .empty .ensures) (search needs))
+    (step-answered _ _ _ _ _ (k .last .1 .1 .0) (t .ensures) (not-false (t .result .ended) (c .before .before .before .before .before .before .before .before .before .before .if2 .left)) (omega (arith, r, l .inv .fits, l .inv .put .long)) a (c .before .before .before .before .before .before .before .before .no-digits .ensures) (search needs))
 
 sub-ask : tie.Need-sub-ask Inv-loop μ-loop
 sub-ask c = omega (arith, c .before .before .before .before .before .before .before .before .before .before .loop .inv .fits, c .before .before .before .before .before .before .before .before .before .before .loop .inv .put .long)
@@ -119,7 +119,7 @@ loop-again-2 c =
     let a = k .ensures (sym (c .before .before .before .before .before .before .changes .ensures) ∙ c .before .before .before .before .before .if3 .left) _ (c .before .before .before .before .before .before .before .before .word-of .ensures) in
     let r = c .before .before .before .before .before .before .before .before .before .before .before .before .before .if1 .left in
     feeding-next (l .inv) (c .before .before .before .before .before .before .before .before .before .before .before .before .before .before .loop-test .taken) (omega (arith, r, l .inv .fits, l .inv .put .long))
-    (step-answered _ _ _ _ _ (k .last .1 .1 .0) (t .ensures) (not-false (t .result .ended) (c .before .before .before .before .before .before .before .before .before .if2 .left)) (omega (arith, r, l .inv .fits, l .inv .put .long)) a (c .before .before .before .before .before .before .before .empty .ensures) (search needs))
+    (step-answered _ _ _ _ _ (k .last .1 .1 .0) (t .ensures) (not-false (t .result .ended) (c .before .before .before .before .before .before .before .before .before .if2 .left)) (omega (arith, r, l .inv .fits, l .inv .put .long)) a (c .before .before .before .before .before .before .before .no-digits .ensures) (search needs))
 
 same-length-3 : tie.Need-same-length-3 Inv-loop μ-loop
 same-length-3 c = c .before .loop .inv .put .long
@@ -141,7 +141,7 @@ fed-spec =
     same-length-2
     returns-2
     word-of-requires
-    empty-requires
+    no-digits-requires
     changes-requires
     sub-order
     part-order-start

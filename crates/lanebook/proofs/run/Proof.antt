@@ -12,8 +12,8 @@ Inv-loop buf₀ out₀ t₀ turns₀ buf out t turns = (length buf ≡ length bu
 abbrev μ-loop : tie.MeasureT-loop
 μ-loop buf₀ out₀ t₀ turns₀ buf out t turns = turns
 
-first-requires : tie.Need-first-requires Inv-loop μ-loop
-first-requires c κs = search needs
+first-desk-requires : tie.Need-first-desk-requires Inv-loop μ-loop
+first-desk-requires c κs = search needs
 
 loop-holds : tie.Need-loop-holds Inv-loop μ-loop
 loop-holds c = (refl, refl)
@@ -54,7 +54,7 @@ run-spec =
     (tie.spec
     Inv-loop
     μ-loop
-    first-requires
+    first-desk-requires
     loop-holds
     sit-requires
     sub-turns
