@@ -498,32 +498,10 @@ impl Yard {
         }
         self.traffic(15, 0, 600);
     }
-
-    /// Every number issued, up to refusal 8. Only by name: it takes two million frames.
-    fn tickets(&mut self) {
-        self.place(1, 1);
-        for ticket in 1..=LAST_TICKET as usize {
-            // Ticket 5 stands to the end, out of the others' way.
-            if ticket == 5 {
-                self.book(0, 0, 100);
-            } else {
-                self.book(0, 0, ticket % 9);
-                self.cancel(ticket);
-            }
-        }
-        self.book(0, 0, 0);
-        self.book(0, 0, DAY as usize);
-        self.book(0, 0, DAY as usize + 1);
-        self.book(0, 1, 0);
-        self.plan(0, 0, 0);
-        self.cancel(5);
-        self.book(0, 0, 0);
-        self.page(64, (0, 0, LAST_TICKET));
-    }
 }
 
 fn usage() -> ! {
-    eprintln!("usage: yards SEED [contended|alley|ties|evening|day|walk|damaged|badmap|wide|full|tickets]");
+    eprintln!("usage: yards SEED [contended|alley|ties|evening|day|walk|damaged|badmap|wide|full]");
     exit(2)
 }
 
@@ -546,7 +524,6 @@ fn main() -> io::Result<()> {
         "badmap" => yard.badmap(),
         "wide" => yard.wide(),
         "full" => yard.full(),
-        "tickets" => yard.tickets(),
         _ => usage(),
     }
     io::stdout().lock().write_all(&yard.written)
