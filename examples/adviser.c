@@ -2,6 +2,10 @@
  * An adviser at the portal: plans runs, and walks the book by pages while others book and
  * cancel. First on the small barn of the rules, then on a larger one.
  *
+ * What is proved of Lanebook are the two calls. Booking and cancelling stand in here for what the
+ * barn's own desk does between an adviser's pages: nothing proves these few lines, which change a
+ * slice by hand, and a program in a barn should take the book from the desk instead.
+ *
  *     gcc -std=c99 -Iinclude examples/adviser.c target/staticlib/libportal.a -o adviser
  */
 #include <inttypes.h>
@@ -10,6 +14,10 @@
 #include <string.h>
 
 #include "lanebook.h"
+
+#if LANEBOOK_SLICE_FORMAT != 1
+#error "the maps and books below are slices of format 1"
+#endif
 
 /* ---- maps: places(2) links(2), then capacity(1) duration(2) and from(1) to(1) each */
 

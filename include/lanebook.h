@@ -30,6 +30,13 @@
  *   rows of a plan        1  1,280
  *   rows of a page        1     64
  *
+ * LANEBOOK_SLICE_FORMAT is the number of this form. It is raised whenever a place, a link, a row or
+ * what stands before them takes other bytes. Who builds slices by hand may ask for it:
+ *
+ *   #if LANEBOOK_SLICE_FORMAT != 1
+ *   #error "slices are built for format 1"
+ *   #endif
+ *
  * On a run's last row, next is the row's own place. The first seven bytes of a packed row are
  * its key, and memcmp over them is the order of keys.
  *
@@ -56,6 +63,10 @@
  *   10  LANEBOOK_BAD_PAGE_SIZE         x    page size 0 or above 64
  *   11  LANEBOOK_BAD_CURSOR            x    cursor place not on the map, entry above 86,400 or
  *                                           ticket above 999,999
+ *
+ * BOOKING AND CANCELLING are not among the calls: the barn's desk does both, and hands out its map and
+ * book as slices. examples/adviser.c changes a book by hand to have something to walk through; that
+ * part of it is a stand-in which nothing proves.
  *
  * WHAT THE CALLER OWES. Each pointer leads to at least as many bytes as its length says, and is
  * not NULL even where the length is 0. The answer slice shares no byte with the map or the
@@ -94,11 +105,16 @@ extern "C" {
 #define LANEBOOK_MOST_STAYS 1280u
 #define LANEBOOK_TICKET_LIMIT 1000000u /* tickets issued are below it */
 
+#define LANEBOOK_SLICE_FORMAT 1
+
+#define LANEBOOK_PLACE_BYTES 3u
+#define LANEBOOK_LINK_BYTES 2u
 #define LANEBOOK_KEY_BYTES 7u
 #define LANEBOOK_ROW_BYTES 11u
 #define LANEBOOK_MAP_HEAD 4u
 #define LANEBOOK_BOOK_HEAD 5u
-#define LANEBOOK_MAP_BYTES(places, links) (LANEBOOK_MAP_HEAD + 3u * (size_t)(places) + 2u * (size_t)(links))
+#define LANEBOOK_MAP_BYTES(places, links) \
+    (LANEBOOK_MAP_HEAD + LANEBOOK_PLACE_BYTES * (size_t)(places) + LANEBOOK_LINK_BYTES * (size_t)(links))
 #define LANEBOOK_BOOK_BYTES(rows) (LANEBOOK_BOOK_HEAD + LANEBOOK_ROW_BYTES * (size_t)(rows))
 #define LANEBOOK_ANSWER_BYTES(rows) (LANEBOOK_ROW_BYTES * (size_t)(rows))
 
@@ -108,6 +124,12 @@ extern "C" {
  * The best run from start to destination that begins at the given second, beside the booked
  * runs: no place is ever above its capacity, no booked wagon is met head-on, and no permitted
  * run arrives sooner. Its stays are written in travel order with ticket 0.
+ * Of runs that arrive equally soon the same one is always given. A free window is a longest stretch
+ * of a place's day in which one more wagon fits for the place's duration or longer. The run enters
+ * each window on its way at the earliest second at which any permitted run could, its last one being
+ * the destination's that can be entered first. It comes into a window from the one out of which
+ * that second can be had; where there are several, from the one with the earlier entry, then
+ * the lower place, then the earlier start.
  * Done: lanebook_arrival and lanebook_count. LANEBOOK_ANSWER_BYTES(LANEBOOK_MOST_STAYS) bytes
  * are room for every plan.
  */
@@ -215,7 +237,7 @@ static inline lanebook_row lanebook_row_at(const uint8_t *at)
     return row;
 }
 
-/* Packs a row into the 11 bytes that begin here. */
+/* Packs a row into the LANEBOOK_ROW_BYTES bytes that begin here. */
 static inline void lanebook_put_row(uint8_t *at, lanebook_row row)
 {
     lanebook_put_number(at, 1, row.place);
