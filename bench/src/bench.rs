@@ -1,7 +1,8 @@
 //! Runs the portal and the plain peer on the same scenarios, and `lanebook` and the peer's frame program on the same frames.
 //!
-//!     bench check [LANEBOOK PEER FRAMES]            every answer agrees
-//!     bench time REPORT [LANEBOOK PEER FRAMES]      the same, and medians, also written to the file REPORT
+//!     bench check [LANEBOOK PEER FRAMES]            every answer agrees, to damaged slices too
+//!     bench time REPORT RUN [LANEBOOK PEER FRAMES]  the same, and medians, also written to the file REPORT; RUN is a line of
+//!                                                   its head that says what was measured where and when
 //!     bench repeat SCENARIO ROUNDS                  the portal alone on one scenario, for a profile
 //!     bench frames COUNT                            prints mixed frames
 
@@ -15,7 +16,8 @@ mod plan;
 mod scenes;
 mod traffic;
 
-use barn::PACKED_ROW;
+use barn::{number, DAY, PACKED_ROW};
+use dice::Dice;
 use scenes::{Call, Scene};
 use std::fs::File;
 use std::hint::black_box;
@@ -24,6 +26,8 @@ use std::process::{exit, Command, Stdio};
 
 const SEED: u64 = 2_026;
 const LIST: usize = 1_280 * PACKED_ROW;
+/// So many damaged slices a scenario.
+const DAMAGED: usize = 400;
 const ROUNDS: usize = 201;
 const PROGRAM_ROUNDS: usize = 5;
 /// A turn of one side takes about so many nanoseconds, so that few turns are cut in two.
@@ -87,31 +91,93 @@ fn peer(map: &[u8], book: &[u8], call: Call, answer: &mut [u8]) -> u64 {
     }
 }
 
-/// Where the two sides differ, in the result or in a byte of the list, on any call and with lists long and short.
+/// The result on which the two sides agree, or what they say where they differ in the result or in a byte of the list.
+fn agreed(map: &[u8], book: &[u8], call: Call, length: usize) -> Result<u64, String> {
+    let mut ours = vec![0xA5u8; LIST];
+    let mut theirs = ours.clone();
+    let one = portal(map, book, call, &mut ours[..length]);
+    let other = peer(map, book, call, &mut theirs[..length]);
+    if one != other || ours != theirs {
+        return Err(format!("with a list of {} bytes: portal {:#x}, peer {:#x}", length, one, other));
+    }
+    Ok(one)
+}
+
+/// Where the two sides differ, on any call and with lists long and short.
 fn disagreement(scene: &Scene) -> Option<String> {
     for (i, &call) in scene.calls.iter().enumerate() {
         for length in [LIST, 5 * PACKED_ROW + 3, 0] {
-            let mut ours = vec![0xA5u8; LIST];
-            let mut theirs = ours.clone();
-            let one = portal(&scene.map, &scene.book, call, &mut ours[..length]);
-            let other = peer(&scene.map, &scene.book, call, &mut theirs[..length]);
-            if one != other || ours != theirs {
-                let what = format!("call {} with a list of {} bytes", i, length);
-                return Some(format!("{}: {}: portal {:#x}, peer {:#x}", scene.name, what, one, other));
+            if let Err(what) = agreed(&scene.map, &scene.book, call, length) {
+                return Some(format!("{}: call {} {}", scene.name, i, what));
             }
         }
     }
     None
 }
 
+/// Changes a byte or two, or cuts the slice short.
+fn damage(dice: &mut Dice, bytes: &mut Vec<u8>) {
+    for _ in 0..dice.among(1, 2) {
+        let at = dice.below(bytes.len());
+        bytes[at] = if dice.chance(50) { bytes[at] ^ 1 << dice.below(8) } else { dice.below(256) as u8 };
+    }
+    if dice.chance(5) {
+        bytes.truncate(dice.below(bytes.len()));
+    }
+}
+
+/// Moves a run to later: it may still be in order, go against another, make a place overfull or leave the day.
+fn shift_run(dice: &mut Dice, book: &mut [u8]) {
+    let (rows, _) = book[5..].as_chunks_mut::<PACKED_ROW>();
+    if rows.is_empty() {
+        return;
+    }
+    let ticket = number(&dice.pick(rows)[4..7]);
+    let most = dice.pick(&[60, 60, DAY as usize]);
+    let seconds = dice.among(1, most) as u32;
+    for row in rows.iter_mut().filter(|row| number(&row[4..7]) == ticket) {
+        for at in [1, 7] {
+            let shifted = number(&row[at..at + 3]) + seconds;
+            row[at..at + 3].copy_from_slice(&shifted.to_be_bytes()[1..]);
+        }
+    }
+    rows.sort_unstable();
+}
+
+/// Where the two sides differ on damaged slices; else how many of them were refused for the map or the book.
+fn damaged_disagreement(scene: &Scene) -> Result<usize, String> {
+    let mut dice = Dice::new(SEED);
+    let mut refused = 0;
+    for i in 0..DAMAGED {
+        let (mut map, mut book) = (scene.map.clone(), scene.book.clone());
+        match dice.below(3) {
+            0 => damage(&mut dice, &mut map),
+            1 => damage(&mut dice, &mut book),
+            _ => shift_run(&mut dice, &mut book),
+        }
+        let got = agreed(&map, &book, dice.pick(&scene.calls), LIST);
+        let got = got.map_err(|what| format!("{}: damaged slices {} {}", scene.name, i, what))?;
+        refused += [1, 2].contains(&(got >> 32)) as usize;
+    }
+    Ok(refused)
+}
+
 fn check(scenes: &[Scene]) {
-    let wrong: Vec<String> = scenes.iter().filter_map(disagreement).collect();
+    let mut wrong: Vec<String> = scenes.iter().filter_map(disagreement).collect();
+    let mut refused = 0;
+    for scene in scenes {
+        match damaged_disagreement(scene) {
+            Ok(more) => refused += more,
+            Err(what) => wrong.push(what),
+        }
+    }
     wrong.iter().for_each(|line| println!("{}", line));
     if !wrong.is_empty() {
         exit(1);
     }
     let calls: usize = scenes.iter().map(|scene| scene.calls.len()).sum();
     println!("{} scenarios, {} calls: all answers agree", scenes.len(), calls);
+    println!("{} calls on damaged slices, {} refused for them: all answers agree", scenes.len() * DAMAGED, refused);
 }
 
 /// Nanoseconds a call, over `repeat` rounds of the scene's calls.
@@ -244,9 +310,10 @@ The program `lanebook` beside the peer's own frame program on one file, processo
 it is tests neither map nor book again once it has them.
 ";
 
-fn time(report: &str, scenes: &[Scene], programs: &[&str]) {
+fn time(report: &str, run: &str, scenes: &[Scene], programs: &[&str]) {
     let mut text = String::from(HEAD);
     text.push('\n');
+    say(&mut text, format!("{}\n", run));
     say(&mut text, format!("In this run planning's code begins at {} mod 64.\n", lanebook_plan as *const () as usize % 64));
     #[cfg(before)]
     say(&mut text, format!("Before is the library before, whose planning begins at {} mod 64.\n", before_plan as *const () as usize % 64));
@@ -264,14 +331,14 @@ fn main() -> io::Result<()> {
     let words: Vec<String> = std::env::args().skip(1).collect();
     let words: Vec<&str> = words.iter().map(String::as_str).collect();
     match words[..] {
-        ["check", ref programs @ ..] | ["time", _, ref programs @ ..] if [0, 3].contains(&programs.len()) => {
+        ["check", ref programs @ ..] | ["time", _, _, ref programs @ ..] if [0, 3].contains(&programs.len()) => {
             let scenes = scenes::all(SEED);
             check(&scenes);
             if let &[lanebook, peer, frames] = programs {
                 check_frames(lanebook, peer, frames);
             }
             if words[0] == "time" {
-                time(words[1], &scenes, programs);
+                time(words[1], words[2], &scenes, programs);
             }
         }
         ["repeat", name, rounds] => {
@@ -284,7 +351,7 @@ fn main() -> io::Result<()> {
             io::stdout().lock().write_all(&frames)?;
         }
         _ => {
-            eprintln!("usage: bench check | time REPORT | repeat SCENARIO ROUNDS | frames COUNT");
+            eprintln!("usage: bench check | time REPORT RUN | repeat SCENARIO ROUNDS | frames COUNT");
             exit(2);
         }
     }

@@ -1,16 +1,18 @@
 //! Frames in, answers out, by the peer.
 
 use crate::barn::*;
-use crate::plan::{chosen, load_kept, Crossings, Windows};
+use crate::plan::{load_kept, Search};
 
 pub struct Desk {
     places: Vec<u8>,
     links: Vec<u8>,
     /// A well-shaped frame of kind 03 to 06 has come: the map stays as it is.
     closed: bool,
-    /// The closed map, where it keeps its rules.
-    map: Option<Map>,
+    map: Map,
+    /// The closed map keeps its rules.
+    map_kept: bool,
     pub book: Book,
+    search: Search,
     next_ticket: u32,
     /// Map and book are tested at each question, as the calls do.
     testing: bool,
@@ -18,8 +20,17 @@ pub struct Desk {
 
 impl Desk {
     pub fn new(testing: bool) -> Desk {
-        let book = Book::empty(0);
-        Desk { places: Vec::new(), links: Vec::new(), closed: false, map: None, book, next_ticket: 1, testing }
+        Desk {
+            places: Vec::new(),
+            links: Vec::new(),
+            closed: false,
+            map: Map::new(),
+            map_kept: false,
+            book: Book::new(),
+            search: Search::new(),
+            next_ticket: 1,
+            testing,
+        }
     }
 
     /// Appends the answer to one line.
@@ -53,26 +64,38 @@ impl Desk {
         Ok(())
     }
 
-    /// The map of a question.
-    fn asked(&mut self) -> Result<&Map, u8> {
-        let closed = std::mem::replace(&mut self.closed, true);
-        if !closed || self.testing {
-            self.map = Map::new(&self.places, &self.links);
+    /// Closes the map at a question. Refused where the map breaks a rule or, if it is tested, the book breaks one other than
+    /// that of load.
+    fn asked(&mut self) -> Result<(), u8> {
+        if !self.closed || self.testing {
+            self.closed = true;
+            self.map_kept = self.map.read(&self.places, &self.links);
         }
-        let map = self.map.as_ref().ok_or(BAD_MAP)?;
-        if !closed {
-            self.book = Book::empty(map.size());
+        if !self.map_kept {
+            return Err(BAD_MAP);
         }
-        if self.testing && !book_kept(map, &self.book, self.next_ticket) {
+        if self.testing && !self.book.kept(&self.map, self.next_ticket) {
             return Err(BAD_BOOK);
         }
-        Ok(map)
+        Ok(())
+    }
+
+    /// The same with the rule of load.
+    fn asked_with_load(&mut self) -> Result<(), u8> {
+        self.asked()?;
+        if self.testing && !load_kept(&self.map, &self.book) {
+            return Err(BAD_BOOK);
+        }
+        Ok(())
     }
 
     /// The chosen plan of a request; without a ticket number left it is refused before the search.
-    fn chosen(&mut self, start: u8, destination: u8, second: u32, ticket_left: bool) -> Result<Vec<Row>, u8> {
-        let size = self.asked()?.size();
-        if start as usize >= size || destination as usize >= size {
+    fn chosen(&mut self, start: u8, destination: u8, second: u32, ticket_left: bool) -> Result<&[Row], u8> {
+        self.asked()?;
+        if !self.search.prepare(&self.map, &self.book, second.min(DAY)) {
+            return Err(BAD_BOOK);
+        }
+        if start as usize >= self.map.size() || destination as usize >= self.map.size() {
             return Err(NOT_A_PLACE);
         }
         if second > DAY {
@@ -81,25 +104,22 @@ impl Desk {
         if !ticket_left {
             return Err(TICKETS_OUT);
         }
-        let map = self.map.as_ref().ok_or(BAD_MAP)?;
-        let windows = Windows::of(map, &self.book).ok_or(BAD_BOOK)?;
-        let crossings = Crossings::of(map, &self.book);
-        chosen(map, &windows, &crossings, start as usize, destination as usize, second).ok_or(NO_PLAN)
+        self.search.chosen(&self.map, &self.book, start, destination, second).ok_or(NO_PLAN)
     }
 
     fn plan(&mut self, start: u8, destination: u8, second: u32, out: &mut Vec<u8>) -> Result<(), u8> {
         let rows = self.chosen(start, destination, second, true)?;
-        let arrival = rows[rows.len() - 1].exit.to_be_bytes();
+        let arrival = rows[rows.len() - 1].exit().to_be_bytes();
         out.extend_from_slice(b"00");
         put(out, &arrival[1..]);
         put(out, &(rows.len() as u16).to_be_bytes());
         out.push(b'\n');
-        put_rows(out, &rows);
+        put_rows(out, rows);
         Ok(())
     }
 
     fn book(&mut self, start: u8, destination: u8, second: u32, out: &mut Vec<u8>) -> Result<(), u8> {
-        let rows = self.chosen(start, destination, second, self.next_ticket < MOST_TICKETS)?;
+        let rows = self.chosen(start, destination, second, self.next_ticket < MOST_TICKETS)?.to_vec();
         if rows.len() > MOST_ROWS - self.book.rows.len() {
             return Err(BOOK_FULL);
         }
@@ -108,14 +128,14 @@ impl Desk {
         self.book.add(&rows, ticket);
         out.extend_from_slice(b"00");
         put(out, &ticket.to_be_bytes()[1..]);
-        put(out, &rows[rows.len() - 1].exit.to_be_bytes()[1..]);
+        put(out, &rows[rows.len() - 1].exit().to_be_bytes()[1..]);
         put(out, &(rows.len() as u16).to_be_bytes());
         out.push(b'\n');
         Ok(())
     }
 
     fn cancel(&mut self, ticket: u32, out: &mut Vec<u8>) -> Result<(), u8> {
-        self.asked()?;
+        self.asked_with_load()?;
         let count = self.book.remove(ticket) as u16;
         if count == 0 {
             return Err(NO_SUCH_TICKET);
@@ -127,16 +147,14 @@ impl Desk {
     }
 
     fn page(&mut self, size: u8, place: u8, entry: u32, ticket: u32, out: &mut Vec<u8>) -> Result<(), u8> {
-        let places = self.asked()?.size();
+        self.asked_with_load()?;
         if size == 0 || size as usize > MOST_ON_PAGE {
             return Err(BAD_PAGE_SIZE);
         }
-        if place as usize >= places || entry > DAY || ticket >= MOST_TICKETS {
+        if place as usize >= self.map.size() || entry > DAY || ticket >= MOST_TICKETS {
             return Err(BAD_CURSOR);
         }
-        let cursor = key(place as u32, entry, ticket);
-        let from = self.book.rows.partition_point(|row| row.key() <= cursor);
-        let after = &self.book.rows[from..];
+        let after = &self.book.rows[self.book.after(key(place as u32, entry, ticket))..];
         let count = after.len().min(size as usize);
         out.extend_from_slice(b"00");
         put(out, &[count as u8, (after.len() > count) as u8]);
@@ -146,24 +164,31 @@ impl Desk {
     }
 }
 
-fn book_kept(map: &Map, book: &Book, next_ticket: u32) -> bool {
-    book.rows_kept(map, next_ticket)
-        && book.runs_whole()
-        && load_kept(map, book)
-        && Crossings::of(map, book).exchange_kept(book)
-}
+/// The two digits of each byte.
+const DIGITS: [[u8; 2]; 256] = {
+    let digits = b"0123456789ABCDEF";
+    let mut all = [[0; 2]; 256];
+    let mut byte = 0;
+    while byte < 256 {
+        all[byte] = [digits[byte / 16], digits[byte % 16]];
+        byte += 1;
+    }
+    all
+};
 
 fn put(out: &mut Vec<u8>, bytes: &[u8]) {
-    const DIGITS: &[u8; 16] = b"0123456789ABCDEF";
     for &byte in bytes {
-        out.extend([DIGITS[byte as usize / 16], DIGITS[byte as usize % 16]]);
+        out.extend_from_slice(&DIGITS[byte as usize]);
     }
 }
 
 fn put_rows(out: &mut Vec<u8>, rows: &[Row]) {
     for row in rows {
-        put(out, &row.packed());
-        out.push(b'\n');
+        let mut line = [b'\n'; 2 * PACKED_ROW + 1];
+        for (two, &byte) in line.as_chunks_mut().0.iter_mut().zip(&row.packed()) {
+            *two = DIGITS[byte as usize];
+        }
+        out.extend_from_slice(&line);
     }
 }
 

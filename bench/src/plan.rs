@@ -1,216 +1,346 @@
-//! Free windows by a sweep, crossings by place, and the chosen plan by a binary heap.
+//! Free windows by a sweep, and the chosen plan by a search that keeps its open windows by second.
 
-use crate::barn::{Book, Map, Row, DAY};
-use std::cmp::Reverse;
-use std::collections::BinaryHeap;
+use crate::barn::{Book, Map, Row, DAY, MOST_PLACES, MOST_ROWS, WORDS};
 
 const NEVER: u32 = DAY + 1;
 const NONE: u16 = u16::MAX;
+const MOST_WINDOWS: usize = MOST_PLACES + MOST_ROWS;
+/// So many windows are looked through one by one.
+const FEW: usize = 8;
 
-/// The free windows in order of place and start.
-pub struct Windows {
-    place: Vec<u8>,
-    start: Vec<u32>,
-    /// The last second at which a window may be entered.
-    latest: Vec<u32>,
-    /// The windows of p are `from[p]..from[p + 1]`.
-    from: Vec<u16>,
+/// A free window, and what the search knows of it.
+#[derive(Clone, Copy)]
+struct Window {
+    start: u32,
+    /// The last second at which it may be entered.
+    latest: u32,
+    /// Its earliest entry so far.
+    entry: u32,
+    /// The window before, or none.
+    before: u16,
+    place: u8,
 }
 
-impl Windows {
-    /// The windows beside a book, or none where a place is overfull.
-    pub fn of(map: &Map, book: &Book) -> Option<Windows> {
-        let most = map.size() + book.rows.len();
-        let mut windows = Windows {
-            place: Vec::with_capacity(most),
-            start: Vec::with_capacity(most),
-            latest: Vec::with_capacity(most),
-            from: Vec::with_capacity(map.size() + 1),
-        };
-        windows.from.push(0);
-        for place in 0..map.size() {
-            let duration = map.places[place].duration;
-            let kept = sweep(map, book, place, |start, end| {
-                if start + duration <= end {
-                    windows.place.push(place as u8);
-                    windows.start.push(start);
-                    windows.latest.push(end - duration);
-                }
+const UNREACHED: Window = Window { start: 0, latest: 0, entry: NEVER, before: NONE, place: 0 };
+
+/// A place's windows that an entry may yet be found or bettered for: those before have been settled or are over, those
+/// after are entered at their start.
+#[derive(Clone, Copy)]
+struct Span {
+    from: u16,
+    stop: u16,
+}
+
+/// The windows in order of place and start, and the room of a search.
+pub struct Search {
+    windows: Vec<Window>,
+    spans: [Span; MOST_PLACES],
+    /// A bit for each place whose span isn't empty.
+    live: [u64; WORDS],
+    open: Queue,
+    run: Vec<Row>,
+}
+
+impl Search {
+    pub const fn new() -> Search {
+        Search {
+            windows: Vec::new(),
+            spans: [Span { from: 0, stop: 0 }; MOST_PLACES],
+            live: [0; WORDS],
+            open: Queue::new(),
+            run: Vec::new(),
+        }
+    }
+
+    /// Finds the windows beside a book that may be entered at the second asked or later; false where a place is overfull.
+    pub fn prepare(&mut self, map: &Map, book: &Book, second: u32) -> bool {
+        self.windows.resize(MOST_WINDOWS + 1, UNREACHED);
+        self.live = [0; WORDS];
+        let mut count = 0;
+        for at in 0..map.size() {
+            let place = at as u8;
+            let duration = map.duration(place);
+            let first = count;
+            let windows = &mut self.windows[..];
+            let kept = sweep(map, book, place, |full, start, end| {
+                let latest = end.wrapping_sub(duration);
+                windows[count] = Window { start, latest, place, ..UNREACHED };
+                count += (full & (latest as i32 >= start.max(second) as i32)) as usize;
             });
             if !kept {
-                return None;
+                return false;
             }
-            windows.from.push(windows.start.len() as u16);
+            self.spans[at] = Span { from: first as u16, stop: count as u16 };
+            self.live[at / 64] |= ((count > first) as u64) << (at % 64);
         }
-        Some(windows)
+        true
     }
 
-    fn at(&self, place: usize) -> std::ops::Range<usize> {
-        self.from[place] as usize..self.from[place + 1] as usize
-    }
-
-    /// The first window of a place that may still be entered at this second, or the end of its windows.
-    fn first_enterable(&self, place: usize, second: u32) -> usize {
-        let range = self.at(place);
-        range.start + self.latest[range].partition_point(|&latest| latest < second)
-    }
-}
-
-/// Whether no place is overfull.
-pub fn load_kept(map: &Map, book: &Book) -> bool {
-    (0..map.size()).all(|place| sweep(map, book, place, |_, _| ()))
-}
-
-/// Hands over the free stretches of a place in order; false where the place is overfull.
-fn sweep(map: &Map, book: &Book, place: usize, mut free: impl FnMut(u32, u32)) -> bool {
-    let capacity = map.places[place].capacity as usize;
-    // The exits of the wagons inside; a slot that is over holds a second not above the entry at hand.
-    let mut exits = [0u32; 16];
-    let exits = &mut exits[..capacity];
-    let mut soonest = 0;
-    let mut start = 0;
-    for row in book.at(place) {
-        if row.entry < exits[soonest] {
-            return false;
+    /// The chosen plan's rows in travel order with ticket 0, or none where no plan is permitted.
+    pub fn chosen(&mut self, map: &Map, book: &Book, start: u8, destination: u8, second: u32) -> Option<&[Row]> {
+        let Span { from, stop } = self.spans[start as usize];
+        let first = &mut self.windows[from as usize];
+        if from == stop || first.start > second {
+            return None;
         }
-        exits[soonest] = row.exit;
-        for slot in 0..capacity {
-            if exits[slot] < exits[soonest] {
-                soonest = slot;
+        first.entry = second;
+        self.open.clear();
+        self.open.push(second, from);
+        let words = map.size().div_ceil(64);
+        // No window entered later than a window of the destination is of use.
+        let mut bound = NEVER;
+        while let Some((second, here)) = self.open.next() {
+            let Window { latest, entry, place, .. } = self.windows[here as usize];
+            if entry != second {
+                continue;
             }
-        }
-        if row.entry < exits[soonest] {
-            free(start, row.entry);
-            start = exits[soonest];
-        }
-    }
-    free(start, DAY);
-    true
-}
-
-/// The crossings out of each place, in order of next place and second.
-pub struct Crossings {
-    codes: Vec<u32>,
-    /// The crossings out of p are `codes[from[p]..from[p + 1]]`.
-    from: Vec<u16>,
-}
-
-fn code(next: u8, second: u32) -> u32 {
-    (next as u32) << 24 | second
-}
-
-impl Crossings {
-    pub fn of(map: &Map, book: &Book) -> Crossings {
-        let mut crossings = Crossings { codes: Vec::with_capacity(book.rows.len()), from: Vec::with_capacity(map.size() + 1) };
-        crossings.from.push(0);
-        for place in 0..map.size() {
-            let start = crossings.codes.len();
-            let out = book.at(place).iter().filter(|row| !row.is_last());
-            crossings.codes.extend(out.map(|row| code(row.next, row.exit)));
-            crossings.codes[start..].sort_unstable();
-            crossings.from.push(crossings.codes.len() as u16);
-        }
-        crossings
-    }
-
-    fn out_of(&self, place: usize) -> &[u32] {
-        &self.codes[self.from[place] as usize..self.from[place + 1] as usize]
-    }
-
-    /// Whether no row goes from p to q at the second at which another goes from q to p.
-    pub fn exchange_kept(&self, book: &Book) -> bool {
-        book.rows.iter().filter(|row| row.place < row.next).all(|row| {
-            self.out_of(row.next as usize).binary_search(&code(row.place, row.exit)).is_err()
-        })
-    }
-
-    /// The least second from `least` to `most` at which no row goes from `to` to `from`, or none.
-    fn unbarred(&self, from: u8, to: usize, least: u32, most: u32) -> Option<u32> {
-        let opposing = self.out_of(to);
-        let mut second = least;
-        let mut at = opposing.partition_point(|&crossing| crossing < code(from, least));
-        while second <= most {
-            if at == opposing.len() || opposing[at] != code(from, second) {
-                return Some(second);
+            if place == destination {
+                trail(map, &self.windows, here, &mut self.run);
+                return Some(&self.run);
             }
-            while at < opposing.len() && opposing[at] == code(from, second) {
-                at += 1;
+            let span = &mut self.spans[place as usize];
+            span.from = here + 1;
+            if span.from >= span.stop {
+                self.live[place as usize / 64] &= !(1 << (place % 64));
             }
-            second += 1;
-        }
-        None
-    }
-}
-
-/// A window's place and the heap's order: earliest entry, then place and window start.
-fn heap_key(entry: u32, window: usize) -> Reverse<u32> {
-    Reverse(entry << 11 | window as u32)
-}
-
-/// The chosen plan's rows in travel order with ticket 0, or none where no plan is permitted.
-pub fn chosen(
-    map: &Map, windows: &Windows, crossings: &Crossings, start: usize, destination: usize, second: u32,
-) -> Option<Vec<Row>> {
-    let first = windows.first_enterable(start, second);
-    if first == windows.at(start).end || windows.start[first] > second {
-        return None;
-    }
-    let mut entry = vec![NEVER; windows.start.len()];
-    let mut before = vec![NONE; windows.start.len()];
-    let mut open = BinaryHeap::new();
-    entry[first] = second;
-    open.push(heap_key(second, first));
-    while let Some(Reverse(least)) = open.pop() {
-        let here = (least & 0x7FF) as usize;
-        if entry[here] != least >> 11 {
-            continue;
-        }
-        let place = windows.place[here];
-        if place as usize == destination {
-            return Some(trail(map, windows, &entry, &before, here));
-        }
-        let duration = map.places[place as usize].duration;
-        let soonest = entry[here] + duration;
-        let end = windows.latest[here] + duration;
-        for &to in map.onward(place as usize) {
-            let range = windows.first_enterable(to as usize, soonest)..windows.at(to as usize).end;
-            for there in range {
-                let least = soonest.max(windows.start[there]);
-                if least > end {
-                    break;
-                }
-                if least >= entry[there] {
-                    continue;
-                }
-                let most = end.min(windows.latest[there]);
-                if let Some(entered) = crossings.unbarred(place, to as usize, least, most) {
-                    if entered < entry[there] {
-                        entry[there] = entered;
-                        before[there] = here as u16;
-                        open.push(heap_key(entered, there));
+            let duration = map.duration(place);
+            let leaving = Leaving { here, place, soonest: second + duration, end: latest + duration };
+            for (word, onward) in map.onward(place).iter().enumerate().take(words) {
+                let mut onward = onward & self.live[word];
+                while onward != 0 {
+                    let to = (64 * word) as u8 + onward.trailing_zeros() as u8;
+                    onward &= onward - 1;
+                    let entered = self.enter(book, leaving, to, bound);
+                    if to == destination {
+                        bound = bound.min(entered);
                     }
                 }
             }
         }
+        None
     }
-    None
+
+    /// Goes from a window to all those of a place that it enters sooner than any before, none later than `bound`, and says
+    /// how soon.
+    #[inline]
+    fn enter(&mut self, book: &Book, leaving: Leaving, to: u8, bound: u32) -> u32 {
+        let Leaving { here, place, soonest, end } = leaving;
+        let end = end.min(bound);
+        let span = &mut self.spans[to as usize];
+        let (first, mut stop) = (span.from as usize, span.stop as usize);
+        let mut at = first;
+        if stop - first > FEW {
+            at += self.windows[first..stop].partition_point(|window| window.latest < soonest);
+        }
+        let mut soon = NEVER;
+        for (i, there) in self.windows[at..stop].iter_mut().enumerate() {
+            if there.latest < soonest {
+                continue;
+            }
+            let least = soonest.max(there.start);
+            if least > end {
+                break;
+            }
+            if least >= there.entry {
+                continue;
+            }
+            let most = end.min(there.latest);
+            let entered = book.unbarred(place, to, least, most);
+            if entered <= most && entered < there.entry {
+                there.entry = entered;
+                there.before = here;
+                self.open.push(entered, (at + i) as u16);
+                soon = soon.min(entered);
+            }
+        }
+        while stop > first && self.windows[stop - 1].entry == self.windows[stop - 1].start {
+            stop -= 1;
+        }
+        span.stop = stop as u16;
+        if stop <= first {
+            self.live[to as usize / 64] &= !(1 << (to % 64));
+        }
+        soon
+    }
+}
+
+/// A window with its place, the soonest second at which it may be left after its entry, and its end.
+#[derive(Clone, Copy)]
+struct Leaving {
+    here: u16,
+    place: u8,
+    soonest: u32,
+    end: u32,
 }
 
 /// The rows of the plan that ends in this window.
-fn trail(map: &Map, windows: &Windows, entry: &[u32], before: &[u16], last: usize) -> Vec<Row> {
-    let mut rows = Vec::new();
-    let mut here = last;
-    let mut next = windows.place[last];
-    let mut exit = entry[last] + map.places[next as usize].duration;
+fn trail(map: &Map, windows: &[Window], last: u16, run: &mut Vec<Row>) {
+    run.clear();
+    let mut here = &windows[last as usize];
+    let (mut next, mut exit) = (here.place, here.entry + map.duration(here.place));
     loop {
-        let place = windows.place[here];
-        rows.push(Row { place, entry: entry[here], ticket: 0, exit, next });
-        if before[here] == NONE {
-            break;
+        let before = windows.get(here.before as usize);
+        let came = before.map_or(here.place, |window| window.place);
+        run.push(Row { came, ..Row::new(here.place, here.entry, 0, exit, next) });
+        (next, exit) = (here.place, here.entry);
+        match before {
+            Some(window) => here = window,
+            None => break,
         }
-        (exit, next) = (entry[here], place);
-        here = before[here] as usize;
     }
-    rows.reverse();
-    rows
+    run.reverse();
+}
+
+/// Whether no place is overfull.
+pub fn load_kept(map: &Map, book: &Book) -> bool {
+    (0..map.size()).all(|place| sweep(map, book, place as u8, |_, _, _| ()))
+}
+
+/// Hands over the free stretches of a place in order, each with true, beside others with false; false where the place is
+/// overfull.
+#[inline(always)]
+fn sweep(map: &Map, book: &Book, place: u8, free: impl FnMut(bool, u32, u32)) -> bool {
+    let rows = book.at(place);
+    match map.capacity(place) {
+        _ if rows.is_empty() => swept::<1>(1, &[], free),
+        1 => swept::<1>(1, rows, free),
+        2 => swept::<2>(2, rows, free),
+        capacity @ 3..=4 => swept::<4>(capacity, rows, free),
+        capacity @ 5..=8 => swept::<8>(capacity, rows, free),
+        capacity => swept::<16>(capacity, rows, free),
+    }
+}
+
+/// The sweep with the exits of the wagons inside in rising order. Slots that the place doesn't have are never left.
+#[inline(always)]
+fn swept<const SLOTS: usize>(capacity: usize, rows: &[Row], mut free: impl FnMut(bool, u32, u32)) -> bool {
+    let mut exits: [u32; SLOTS] = std::array::from_fn(|slot| if slot < capacity { 0 } else { u32::MAX });
+    let mut start = 0;
+    let mut odd = false;
+    for row in rows {
+        let (entry, mut exit) = (row.entry(), row.exit());
+        odd |= entry < exits[0];
+        for slot in 1..SLOTS {
+            (exits[slot - 1], exit) = (exits[slot].min(exit), exits[slot].max(exit));
+        }
+        exits[SLOTS - 1] = exit;
+        let full = entry < exits[0];
+        free(full, start, entry);
+        start = if full { exits[0] } else { start };
+    }
+    free(true, start, DAY);
+    !odd
+}
+
+const SECOND_WORDS: usize = DAY as usize / 64 + 1;
+const GROUPS: usize = SECOND_WORDS / 64 + 1;
+
+/// The open windows by second: a bit for each second that has any, a bit for each word of those that isn't zero, a bit for
+/// each of these words again, and a list for each second. A second's windows are put in order when it is the least: no more
+/// are added to it then.
+struct Queue {
+    seconds: [u64; SECOND_WORDS],
+    groups: [u64; GROUPS],
+    top: u32,
+    /// The first node of each second that has any.
+    heads: Vec<Node>,
+    /// The other nodes, from 1 on.
+    nodes: Vec<Node>,
+    /// What is left of the second at hand, the least window last.
+    left: Vec<u16>,
+    second: u32,
+}
+
+/// A window, and the number of the next node of the same second, or 0. A search makes fewer than 2^21 nodes, as no window is
+/// reached from another twice.
+#[derive(Clone, Copy)]
+struct Node(u32);
+
+impl Node {
+    fn new(window: u16, next: usize) -> Node {
+        Node((next as u32) << 11 | window as u32)
+    }
+
+    fn window(self) -> u16 {
+        self.0 as u16 & 0x7FF
+    }
+
+    fn next(self) -> usize {
+        self.0 as usize >> 11
+    }
+}
+
+impl Queue {
+    const fn new() -> Queue {
+        Queue {
+            seconds: [0; SECOND_WORDS],
+            groups: [0; GROUPS],
+            top: 0,
+            heads: Vec::new(),
+            nodes: Vec::new(),
+            left: Vec::new(),
+            second: 0,
+        }
+    }
+
+    fn clear(&mut self) {
+        while self.top != 0 {
+            let group = self.top.trailing_zeros() as usize;
+            while self.groups[group] != 0 {
+                self.seconds[64 * group + self.groups[group].trailing_zeros() as usize] = 0;
+                self.groups[group] &= self.groups[group] - 1;
+            }
+            self.top &= self.top - 1;
+        }
+        self.heads.resize(DAY as usize + 1, Node(0));
+        self.nodes.clear();
+        self.nodes.push(Node(0));
+        self.left.clear();
+    }
+
+    fn push(&mut self, second: u32, window: u16) {
+        let (second, word) = (second as usize, second as usize / 64);
+        let mut next = 0;
+        if self.seconds[word] >> (second % 64) & 1 == 1 {
+            next = self.nodes.len();
+            self.nodes.push(self.heads[second]);
+        }
+        self.seconds[word] |= 1 << (second % 64);
+        self.groups[word / 64] |= 1 << (word % 64);
+        self.top |= 1 << (word / 64);
+        self.heads[second] = Node::new(window, next);
+    }
+
+    /// Takes the least window of the least second out.
+    fn next(&mut self) -> Option<(u32, u16)> {
+        if let Some(window) = self.left.pop() {
+            return Some((self.second, window));
+        }
+        if self.top == 0 {
+            return None;
+        }
+        let group = self.top.trailing_zeros() as usize;
+        let word = 64 * group + self.groups[group].trailing_zeros() as usize;
+        let second = 64 * word + self.seconds[word].trailing_zeros() as usize;
+        self.seconds[word] &= self.seconds[word] - 1;
+        if self.seconds[word] == 0 {
+            self.groups[group] &= self.groups[group] - 1;
+            if self.groups[group] == 0 {
+                self.top &= self.top - 1;
+            }
+        }
+        self.second = second as u32;
+        let node = self.heads[second];
+        if node.next() == 0 {
+            return Some((self.second, node.window()));
+        }
+        self.left.push(node.window());
+        let mut next = node.next();
+        while next != 0 {
+            self.left.push(self.nodes[next].window());
+            next = self.nodes[next].next();
+        }
+        self.left.sort_unstable_by_key(|&window| std::cmp::Reverse(window));
+        self.left.pop().map(|window| (self.second, window))
+    }
 }

@@ -4,7 +4,7 @@
 use crate::barn::{push, Book, Map, Row, MOST_ON_PAGE, MOST_ROWS, PACKED_ROW};
 use crate::calls;
 use crate::dice::Dice;
-use crate::plan::{chosen, Crossings, Windows};
+use crate::plan::Search;
 
 #[derive(Clone, Copy)]
 pub enum Call {
@@ -141,16 +141,17 @@ struct Yard {
     plot: Plot,
     map: Map,
     book: Book,
+    search: Search,
     next_ticket: u32,
     ends: u32,
 }
 
 impl Yard {
     fn new(dice: Dice, plot: Plot) -> Yard {
-        let map = Map::new(&plot.places, &plot.packed_links()).expect("a map that keeps its rules");
-        let book = Book::empty(map.size());
+        let mut map = Map::new();
+        assert!(map.read(&plot.places, &plot.packed_links()), "a map that keeps its rules");
         let ends = map.size() as u32;
-        Yard { dice, plot, map, book, next_ticket: 1, ends }
+        Yard { dice, plot, map, book: Book::new(), search: Search::new(), next_ticket: 1, ends }
     }
 
     fn barn(seed: u64, places: usize, links: usize) -> Yard {
@@ -159,15 +160,14 @@ impl Yard {
         Yard::new(dice, plot)
     }
 
-    fn plan(&self, start: u32, destination: u32, second: u32) -> Option<Vec<Row>> {
-        let windows = Windows::of(&self.map, &self.book).expect("a well-formed book");
-        let crossings = Crossings::of(&self.map, &self.book);
-        chosen(&self.map, &windows, &crossings, start as usize, destination as usize, second)
+    fn plan(&mut self, start: u32, destination: u32, second: u32) -> Option<&[Row]> {
+        assert!(self.search.prepare(&self.map, &self.book, second), "a well-formed book");
+        self.search.chosen(&self.map, &self.book, start as u8, destination as u8, second)
     }
 
     /// Books the run if it is permitted and the book has then at most `most` rows.
     fn book(&mut self, start: u32, destination: u32, second: u32, most: usize) -> bool {
-        match self.plan(start, destination, second) {
+        match self.plan(start, destination, second).map(<[Row]>::to_vec) {
             Some(run) if self.book.rows.len() + run.len() <= most => {
                 self.book.add(&run, self.next_ticket);
                 self.next_ticket += 1;
@@ -180,10 +180,11 @@ impl Yard {
     /// Books a run as given: places and the seconds at which they are entered.
     fn book_run(&mut self, stays: &[(u32, u32)]) {
         let (last, entry) = stays[stays.len() - 1];
-        let (mut next, mut exit) = (last as u8, entry + self.map.places[last as usize].duration);
+        let (mut next, mut exit) = (last as u8, entry + self.map.duration(last as u8));
         let mut run = Vec::new();
-        for &(place, entry) in stays.iter().rev() {
-            run.push(Row { place: place as u8, entry, ticket: 0, exit, next });
+        for (i, &(place, entry)) in stays.iter().enumerate().rev() {
+            let came = stays[i.saturating_sub(1)].0 as u8;
+            run.push(Row { came, ..Row::new(place as u8, entry, 0, exit, next) });
             (next, exit) = (place as u8, entry);
         }
         self.book.add(&run, self.next_ticket);
@@ -246,7 +247,7 @@ impl Yard {
         let mut calls = vec![Call::Page { size, place: 0, entry: 0, ticket: 0 }];
         while calls.len() < CALLS {
             let row = self.book.rows[self.dice.below(self.book.rows.len() - MOST_ON_PAGE)];
-            calls.push(Call::Page { size, place: row.place as u32, entry: row.entry, ticket: row.ticket });
+            calls.push(Call::Page { size, place: row.place() as u32, entry: row.entry(), ticket: row.ticket() });
         }
         calls
     }

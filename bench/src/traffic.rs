@@ -34,13 +34,13 @@ pub fn frames(seed: u64, count: usize) -> Vec<u8> {
         let line = match dice.below(100) {
             0..=39 => format!("03{:02X}{:02X}{:06X}", start, destination, second),
             40..=64 if desk.book.rows.len() < ROWS => format!("04{:02X}{:02X}{:06X}", start, destination, second),
-            40..=64 => format!("05{:06X}", dice.pick(&desk.book.rows).ticket),
+            40..=64 => format!("05{:06X}", dice.pick(&desk.book.rows).ticket()),
             65..=96 => {
                 let size = dice.among(1, MOST_ON_PAGE);
                 let frame = format!("06{:02X}{:02X}{:06X}{:06X}", size, cursor.0, cursor.1, cursor.2);
-                let shown = desk.book.rows.iter().filter(|row| (row.place, row.entry, row.ticket) > cursor);
+                let shown = desk.book.rows.iter().filter(|row| (row.place(), row.entry(), row.ticket()) > cursor);
                 let last = shown.take(size).last();
-                cursor = last.map_or((0, 0, 0), |row: &Row| (row.place, row.entry, row.ticket));
+                cursor = last.map_or((0, 0, 0), |row: &Row| (row.place(), row.entry(), row.ticket()));
                 frame
             }
             97 => format!("05{:06X}", dice.below(1_000_000)),
