@@ -4,7 +4,7 @@
  *
  * What is proved of Lanebook are the two calls. Booking and cancelling stand in here for what the
  * barn's own desk does between an adviser's pages: nothing proves these few lines, which change a
- * slice by hand, and a program in a barn should take the book from the desk instead.
+ * slice by hand. An adviser in a barn holds a copy of the desk's book and changes nothing in it.
  *
  *     gcc -std=c99 -Iinclude examples/adviser.c target/staticlib/libportal.a -o adviser
  */

@@ -64,9 +64,9 @@
  *   11  LANEBOOK_BAD_CURSOR            x    cursor place not on the map, entry above 86,400 or
  *                                           ticket above 999,999
  *
- * BOOKING AND CANCELLING are not among the calls: the barn's desk does both, and hands out its map and
- * book as slices. examples/adviser.c changes a book by hand to have something to walk through; that
- * part of it is a stand-in which nothing proves.
+ * BOOKING AND CANCELLING are not among the calls: both are done at the barn's desk, and an adviser holds
+ * a copy of its map and book as slices. examples/adviser.c changes a book by hand to have something to
+ * walk through; that part of it is a stand-in which nothing proves.
  *
  * WHAT THE CALLER OWES. Each pointer leads to at least as many bytes as its length says, and is
  * not NULL even where the length is 0. The answer slice shares no byte with the map or the
