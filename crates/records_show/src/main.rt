@@ -1,4 +1,5 @@
-// Plan and page on the small barn, with their rows written to lists of row records of different lengths: none, too short, exact and longer.
+// Plan and page on the small barn, with their rows written to lists of row records of different lengths: none, too short, exact and longer; and each
+// of their refusals.
 use rules::Book;
 use rules::Cursor;
 use rules::Link;
@@ -260,6 +261,74 @@ fn check_page(n: usize)
     check::expect(a.more());
 }
 
+// ---- refusals
+
+// A place with capacity 17.
+fn bad_map() -> Map {
+    let mut m = barn();
+    m.places[0] = Place {
+        capacity: 17,
+        duration: 10,
+    };
+    m
+}
+
+// Next ticket 0.
+fn bad_book() -> Book {
+    let mut b = booked();
+    b.next_ticket = 0;
+    b
+}
+
+// One line: the call, the number returned, and whether all eight records are as they were.
+fn tell(call: &[u8], code: u8, kept: bool) {
+    io::write_all(1, call);
+    io::write_all(1, b" ");
+    io::print_decimal(1, code as u64);
+    if kept {
+        io::write_all(1, b", unchanged\n");
+    } else {
+        io::write_all(1, b", changed\n");
+    }
+}
+
+fn refused_plan(m: Map, b: Book, start: u32, destination: u32, second: u32) {
+    let s = lend_plan(m, b, start, destination, second, marked(), 8);
+    let rows = s.rows;
+    let a = s.answer;
+    let kept = same_rows(rows, marked());
+    tell(b"plan", a.number(), kept);
+}
+
+fn refused_page(m: Map, b: Book, size: u32, c: Cursor) {
+    let s = lend_page(m, b, size, c, marked(), 8);
+    let rows = s.rows;
+    let a = s.answer;
+    let kept = same_rows(rows, marked());
+    tell(b"page", a.number(), kept);
+}
+
+// Each refusal but 6, which lists that are too short have shown.
+fn refusals() {
+    let m = barn();
+    let b = booked();
+    refused_plan(bad_map(), b, 0, 3, 10);
+    refused_plan(m, bad_book(), 0, 3, 10);
+    refused_plan(m, b, 0, 4, 10);
+    refused_plan(m, b, 0, 3, 86401);
+    refused_plan(m, b, 0, 3, 0);
+    let first = Cursor::first();
+    let off = Cursor {
+        place: 4,
+        entry: 0,
+        ticket: 0,
+    };
+    refused_page(bad_map(), b, 2, first);
+    refused_page(m, bad_book(), 2, first);
+    refused_page(m, b, 65, first);
+    refused_page(m, b, 2, off);
+}
+
 fn main() {
     check_plan(0);
     check_plan(2);
@@ -269,4 +338,5 @@ fn main() {
     check_page(1);
     check_page(2);
     check_page(8);
+    refusals();
 }
