@@ -9,14 +9,13 @@ use Rattle.laws.specs.Lists.{at}
 use Rattle.rules.specs.declared.Place.{Place}
 use Rattle.rules.specs.Limits.{day}
 use Rattle.rules.specs.Map.{MapRules}
-use Rattle.rules.specs.Book.{WellFormed}
+use Rattle.rules.specs.Book.{Unbarred, WellFormed}
 use Rattle.lanes.specs.Nodes.{Windows}
 use Rattle.flat.specs.Flat.{placesIn, linksIn, yardIn, placeOf, rowsIn, Packed, spanAt, Grouped}
 use Rattle.flat.specs.Laws.{places-long, place-in, links-long, yard-of}
 use Rattle.lookup.specs.Crossings.{ByPlace}
 use Rattle.windows.specs.Places.{Given, AllWindows}
 use Rattle.bookfit.specs.Keys.{next-parts}
-use Rattle.bookfit.specs.Against.{Unopposed}
 use Rattle.bookfit.specs.Formed.{Sound, Tests, tests-formed, formed-tests}
 
 -- r windows, with each window's place P, start S and end E, and each place's first window A
@@ -91,10 +90,10 @@ module _ (C D : List ℕ) (n : ℕ) (F T : List ℕ) (k : ℕ) (K X : List ℕ) 
       pub overfull-book : w ≡ 1281 → BookFits C D n F T k K X count t 1281 S E P A
       overfull-book e = not-formed (λ z. let o = all .overfull e in omega (arith, o .3, z .room (o .0) (o .1) (o .2))) (all .len-S) (all .len-E) (all .len-P) (all .len-F)
 
-      pub opposed-book : (Unopposed (at K) (at X) count → ⊥) → BookFits C D n F T k K X count t 1281 S E P A
-      opposed-book f = not-formed (λ z. f (z .exchange)) (all .len-S) (all .len-E) (all .len-P) (all .len-F)
+      pub barred-book : (Unbarred (rowsIn K X count) → ⊥) → BookFits C D n F T k K X count t 1281 S E P A
+      barred-book f = not-formed (λ z. f (z .exchange)) (all .len-S) (all .len-E) (all .len-P) (all .len-F)
 
-      pub formed-book : (w ≡ 1281 → ⊥) → Sound D n F T k K X count t → Unopposed (at K) (at X) count → BookFits C D n F T k K X count t w S E P A
+      pub formed-book : (w ≡ 1281 → ⊥) → Sound D n F T k K X count t → Unbarred (rowsIn K X count) → BookFits C D n F T k K X count t w S E P A
       formed-book g Z U =
           let h : w < 1281 = omega (arith, all .bound) in
           record {

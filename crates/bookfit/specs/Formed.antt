@@ -12,7 +12,7 @@ use Rattle.rules.specs.declared.Row.{Row}
 use Rattle.rules.specs.Limits.{rowLimit, ticketLimit}
 use Rattle.rules.specs.Map.{Yard, MapRules, linked}
 use Rattle.rules.specs.Rows.{load}
-use Rattle.rules.specs.Book.{Ranges, WellFormed}
+use Rattle.rules.specs.Book.{Ranges, Unbarred, WellFormed}
 use Rattle.lanes.specs.Yards.{YardRules, yard-rules}
 use Rattle.flat.specs.Flat.{placesIn, linksIn, yardIn, Of, rowsIn, KeysRise}
 use Rattle.flat.specs.Laws.{rows-long, row-in, yard-of}
@@ -20,8 +20,7 @@ use Rattle.lookup.specs.Order.{keys-rising, rising-keys}
 use Rattle.chains.specs.Laws.{tested-whole, whole-tested}
 use Rattle.bookfit.specs.Join.{Joined, OneLast}
 use Rattle.bookfit.specs.Rows.{TicketsFit, RowFits, RowsFit}
-use Rattle.bookfit.specs.Against.{Unopposed}
-use Rattle.bookfit.specs.Bridge.{unopposed-exchange, exchange-unopposed, index-tested, tested-fits, tested-joined, tested-one-last}
+use Rattle.bookfit.specs.Bridge.{index-tested, tested-fits, tested-joined, tested-one-last}
 
 -- what is asked of the rows before their place's room is looked at
 pub record Sound (D : List ℕ) (n : ℕ) (F T : List ℕ) (k : ℕ) (K X : List ℕ) (count t : ℕ) : Type 0 where
@@ -38,7 +37,7 @@ pub record Sound (D : List ℕ) (n : ℕ) (F T : List ℕ) (k : ℕ) (K X : List
 pub record Tests (C D : List ℕ) (n : ℕ) (F T : List ℕ) (k : ℕ) (K X : List ℕ) (count t : ℕ) : Type 0 where
   pub sound : Sound D n F T k K X count t
   pub room : (p s : ℕ) → p < n → load (rowsIn K X count) p s ≤ at C p
-  pub exchange : Unopposed (at K) (at X) count
+  pub exchange : Unbarred (rowsIn K X count)
 
 -- ---- rows of the arrays' map, by the yard that they make
 
@@ -96,7 +95,7 @@ module _ (C D : List ℕ) (n : ℕ) (F T : List ℕ) (k : ℕ) (K X : List ℕ) 
         ranges = λ i h. let hi : i < count = omega arith in rw (row-in K X count i hi) (ranges-of R (A .each i hi) (S .sound .tickets .each i hi .from) (S .sound .tickets .each i hi .to));
         whole = tested-whole R (index-tested K X count (yardIn C D n F T k) A (S .sound .joined) (S .sound .one-last));
         room = λ p s h. let hp : p < n = omega (arith, O .places) in omega (arith, S .room p s hp, O .caps p hp);
-        exchange = unopposed-exchange K X count (S .exchange);
+        exchange = S .exchange;
       }
 
   pub formed-tests : WellFormed (yardIn C D n F T k) (rowsIn K X count) t → Tests C D n F T k K X count t
@@ -117,5 +116,5 @@ module _ (C D : List ℕ) (n : ℕ) (F T : List ℕ) (k : ℕ) (K X : List ℕ) 
           one-last = tested-one-last K X count (yardIn C D n F T k) R tested;
         };
         room = λ p s h. omega (arith, W .room p s (omega (arith, O .places)), O .caps p h);
-        exchange = exchange-unopposed K X count (W .exchange);
+        exchange = W .exchange;
       }

@@ -2,7 +2,8 @@ pub mod Each
 pub mod Join
 pub mod Marks
 pub mod Rows
-pub mod Against
+pub mod Ring
+pub mod Filed
 pub mod Keys
 pub mod Bridge
 pub mod Formed

@@ -3,18 +3,22 @@
 use rules::Book;
 use rules::Map;
 ghost use mathlib.Core.Path.{_≡_};
-ghost use mathlib.Core.Bool.{true};
+ghost use mathlib.Core.Bool.{true, false};
 ghost use Prim.Native.Nat.{ℕ, _+_, _≤_, _<_, _%_};
 ghost use lib.ListN.{length};
 ghost use lib.Dec.{eqb};
 ghost use Rattle.laws.specs.Tests.{Decides};
 ghost use Rattle.laws.specs.Lists.{at};
+ghost use Rattle.rules.specs.Bytes.{fieldLimit};
 ghost use Rattle.rules.specs.Map.{linked, MapRules};
-ghost use Rattle.flat.specs.Flat.{placesIn, linksIn, Chained, placeOf, entryOf, ticketOf, nextOf, keyLimit, rowOf, Packed, KeysRise};
+ghost use Rattle.rules.specs.Book.{Unbarred};
+ghost use Rattle.flat.specs.Flat.{placesIn, linksIn, Chained, placeOf, entryOf, ticketOf, nextOf, keyLimit, rowOf, rowsIn, Packed, KeysRise};
+ghost use Rattle.lookup.specs.Keys.{Keyed};
 ghost use Rattle.lookup.specs.Crossings.{ByPlace};
 ghost use Rattle.bookfit.specs.Join.{nextKey, IsLast, Joined, OneLast, LastBelow};
 ghost use Rattle.bookfit.specs.Rows.{TicketFits, TicketsFit, RowFits, RowsFit};
-ghost use Rattle.bookfit.specs.Against.{Opposed, Unopposed, crossSlot};
+ghost use Rattle.bookfit.specs.Ring.{Ringed, Leaves, Listed};
+ghost use Rattle.bookfit.specs.Filed.{leaveSlot, Chains, Ahead, Filed, Pile, AboveAll};
 ghost use Rattle.bookfit.specs.Formed.{Sound};
 ghost use Rattle.bookfit.specs.Answer.{BookFits};
 
@@ -264,54 +268,319 @@ pub fn rows_fit(
     true
 }
 
-// ---- the exchange rule
+// ---- the exchange rule: no crossing closes a ring with others of its second
 
-// the slot of a row's crossing: a crossing against it has the same
-fn cross_slot(key: u64, tail: u32) -> usize
-    ensures { λ r. ⌜ (r ≡ crossSlot key tail) × (r < 4096) ⌝ }
+// the slot of the crossings that leave a place at a second
+fn leave_slot(place: u8, second: u32) -> usize
+    requires { ⌜ second < fieldLimit ⌝ }
+    ensures { λ r. ⌜ (r ≡ leaveSlot place second) × (r < 1024) ⌝ }
 {
-    let p = key / flat::PLACE;
-    let q = flat::next_of(tail) as u64;
-    let x = flat::exit_of(tail) as u64;
-    ((x + 16 * (p + q)) % 4096) as usize
+    let p = place as u32;
+    ((second * 11 + p * 301) % 1024) as usize
 }
 
-// where the slot is marked: a row goes against row i, which goes on
-fn opposed(key: &[u64; 1024], tail: &[u32; 1024], count: usize, i: usize, marked: bool) -> bool
-    requires { ⌜ ByPlace (now key) (now tail) count ⌝ }
-    requires { ⌜ i < count ⌝ }
-    requires { ⌜ (IsLast (at (now key) i) (at (now tail) i) → ⊥) ⌝ }
-    ensures { λ r. ⌜ (r ≡ true → Opposed (at (now (key .entry))) (at (now (tail .entry))) count i) × (marked ≡ true → Opposed (at (now (key .entry))) (at (now (tail .entry))) count i → r ≡ true) ⌝ }
+fn broad(x: u16) -> usize
+    ensures { λ r. ⌜ r ≡ x ⌝ }
 {
-    if !marked {
-        return false;
-    }
-    let p = flat::place_of(key[i]);
-    let x = tail[i];
-    lookup::barred(key, tail, count, flat::next_of(x), p, flat::exit_of(x))
+    x as usize
 }
 
-// no row goes against another: a look only where the crossing's slot is marked already
-pub fn exchange_kept(key: &[u64; 1024], tail: &[u32; 1024], count: usize) -> bool
-    requires { ⌜ ByPlace (now key) (now tail) count ⌝ }
-    ensures { λ r. ⌜ Decides r (Unopposed (at (now (key .entry))) (at (now (tail .entry))) count) ⌝ }
+// the row that stands at c in a list
+fn row_at(list: &[u16; 1024], c: usize) -> usize
+    requires { ⌜ c < 1024 ⌝ }
+    requires { ⌜ at (now list) c < 1024 ⌝ }
+    ensures { λ r. ⌜ (r ≡ at (now (list .entry)) c) × (r < 1024) ⌝ }
 {
-    let mut seen = [false; 4096];
+    broad(list[c])
+}
+
+// The rows that go on out of a place which another enters then: no other can be on a ring. How many they are.
+fn candidates(key: &[u64; 1024], tail: &[u32; 1024], count: usize, list: &mut [u16; 1024]) -> usize
+    requires { ⌜ ByPlace (now key) (now tail) count ⌝ }
+    requires { ⌜ length (now list) ≡ 1024 ⌝ }
+    ensures { λ r. ⌜ Listed (now (key .entry)) (now (tail .entry)) count count (now (list .exit)) r ⌝ }
+{
+    let mut m = 0;
     let mut i = 0;
     while i < count {
         let k = key[i];
         let x = tail[i];
-        if !is_last(k, x) {
-            let h = cross_slot(k, x);
-            let s = seen[h];
-            if opposed(key, tail, count, i, s) {
-                return false;
+        if lookup::entered_after(key, count, i, flat::place_of(k), flat::exit_of(x)) {
+            if !is_last(k, x) {
+                list[m] = i as u16;
+                m += 1;
             }
-            seen[h] = true;
         }
         i += 1;
     }
+    m
+}
+
+// each listed row put in front of its slot's chain
+fn file_rows(
+    key: &[u64; 1024],
+    tail: &[u32; 1024],
+    count: usize,
+    list: &[u16; 1024],
+    m: usize,
+    head: &mut [u16; 1024],
+    chain: &mut [u16; 1024],
+)
+    requires { ⌜ Keyed (now key) count ⌝ }
+    requires { ⌜ Listed (now key) (now tail) count count (now list) m ⌝ }
+    requires { ⌜ Filed (now key) (now tail) (now list) m 0 (now head) (now chain) ⌝ }
+    ensures { λ _. ⌜ Filed (now (key .entry)) (now (tail .entry)) (now (list .entry)) m m (now (head .exit)) (now (chain .exit)) ⌝ }
+{
+    let mut c = 0;
+    while c < m {
+        let i = row_at(list, c);
+        let h = leave_slot(flat::place_of(key[i]), flat::exit_of(tail[i]));
+        chain[i] = head[h];
+        head[h] = (i + 1) as u16;
+        c += 1;
+    }
+}
+
+// The first row from start on along a chain that leaves place q at t, counted from 1 as in the chain; 0 where there is none.
+fn leaver(
+    key: &[u64; 1024],
+    tail: &[u32; 1024],
+    chain: &[u16; 1024],
+    start: u16,
+    q: u8,
+    t: u32,
+) -> usize
+    requires { ⌜ start ≤ 1024 ⌝ }
+    requires { ⌜ ((j : ℕ) → at (now chain) j ≤ j) ⌝ }
+    ensures { λ r. ⌜ (r ≤ start) × (r ≤ 1024) × Ahead (now (chain .entry)) (Leaves (now (key .entry)) (now (tail .entry)) q t) start r ⌝ }
+{
+    let p = q as u64;
+    let mut cur = broad(start);
+    while cur > 0 {
+        let j = cur - 1;
+        if flat::exit_of(tail[j]) == t {
+            if key[j] / flat::PLACE == p {
+                return cur;
+            }
+        }
+        cur = broad(chain[j]);
+    }
+    0
+}
+
+// Row i put on the pile, before the first row of the chain of its next place.
+fn pile_up(
+    tail: &[u32; 1024],
+    head: &[u16; 1024],
+    rank: &mut [u16; 1024],
+    work: &mut [u16; 1024],
+    spot: &mut [u16; 1024],
+    top: usize,
+    i: usize,
+)
+    requires { ⌜ (top < 1024) × (i < 1024) ⌝ }
+    requires { ⌜ ((h : ℕ) → at (now head) h ≤ 1024) ⌝ }
+    requires { ⌜ Pile (now rank) (now work) (now spot) ⌝ }
+    ensures { λ _. ⌜ Pile (now (rank .exit)) (now (work .exit)) (now (spot .exit)) ⌝ }
+{
+    work[top] = i as u16;
+    spot[top] = head[leave_slot(flat::next_of(tail[i]), flat::exit_of(tail[i]))];
+    rank[i] = 65535;
+}
+
+// Row i and all that it leads to numbered, each after those that follow it as far as there is no ring, in at most 20,000 turns. The last number given.
+fn number_from(
+    key: &[u64; 1024],
+    tail: &[u32; 1024],
+    head: &[u16; 1024],
+    chain: &[u16; 1024],
+    rank: &mut [u16; 1024],
+    work: &mut [u16; 1024],
+    spot: &mut [u16; 1024],
+    i: usize,
+    from: u16,
+) -> u16
+    requires { ⌜ i < 1024 ⌝ }
+    requires { ⌜ Chains (now head) (now chain) ⌝ }
+    requires { ⌜ Pile (now rank) (now work) (now spot) ⌝ }
+    ensures { λ _. ⌜ Pile (now (rank .exit)) (now (work .exit)) (now (spot .exit)) ⌝ }
+{
+    let mut done = from;
+    let mut top = 0;
+    let mut left: usize = 20000;
+    pile_up(tail, head, rank, work, spot, 0, i);
+    while left > 0 {
+        left -= 1;
+        let x = row_at(work, top);
+        let c = leaver(
+            key,
+            tail,
+            chain,
+            spot[top],
+            flat::next_of(tail[x]),
+            flat::exit_of(tail[x]),
+        );
+        if c == 0 {
+            if done < 1024 {
+                done += 1;
+            }
+            rank[x] = done;
+            if top == 0 {
+                return done;
+            }
+            top -= 1;
+        } else {
+            let j = c - 1;
+            spot[top] = chain[j];
+            if rank[j] == 0 {
+                if top < 1023 {
+                    top += 1;
+                    pile_up(tail, head, rank, work, spot, top, j);
+                }
+            }
+        }
+    }
+    done
+}
+
+// Each listed row numbered. Any numbers would do, since they are tested.
+fn number_rows(
+    key: &[u64; 1024],
+    tail: &[u32; 1024],
+    list: &[u16; 1024],
+    m: usize,
+    head: &[u16; 1024],
+    chain: &[u16; 1024],
+    rank: &mut [u16; 1024],
+)
+    requires { ⌜ m ≤ 1024 ⌝ }
+    requires { ⌜ ((j : ℕ) → j < m → at (now list) j < 1024) ⌝ }
+    requires { ⌜ Chains (now head) (now chain) ⌝ }
+    requires { ⌜ length (now rank) ≡ 1024 ⌝ }
+    ensures { λ _. ⌜ length (now (rank .exit)) ≡ 1024 ⌝ }
+{
+    let mut work = [0u16; 1024];
+    let mut spot = [0u16; 1024];
+    let mut done: u16 = 0;
+    let mut c = 0;
+    while c < m {
+        let i = row_at(list, c);
+        if rank[i] == 0 {
+            done = number_from(key, tail, head, chain, rank, &mut work, &mut spot, i, done);
+        }
+        c += 1;
+    }
+}
+
+// row i is numbered above all listed rows that leave its next place then
+fn above_all(
+    key: &[u64; 1024],
+    tail: &[u32; 1024],
+    head: &[u16; 1024],
+    chain: &[u16; 1024],
+    rank: &[u16; 1024],
+    i: usize,
+) -> bool
+    requires { ⌜ i < 1024 ⌝ }
+    requires { ⌜ Chains (now head) (now chain) ⌝ }
+    ensures { λ r. ⌜ (r ≡ true → AboveAll (now (key .entry)) (now (tail .entry)) (now (head .entry)) (now (chain .entry)) (now (rank .entry)) i) ⌝ }
+{
+    let q = flat::next_of(tail[i]);
+    let t = flat::exit_of(tail[i]);
+    let r = rank[i];
+    let mut c = leaver(key, tail, chain, head[leave_slot(q, t)], q, t);
+    while c > 0 {
+        let j = c - 1;
+        if rank[j] >= r {
+            return false;
+        }
+        c = leaver(key, tail, chain, chain[j], q, t);
+    }
     true
+}
+
+// No listed row is barred: one that is not above all that follow it is looked at by itself.
+fn ranks_fall(
+    key: &[u64; 1024],
+    tail: &[u32; 1024],
+    count: usize,
+    list: &[u16; 1024],
+    m: usize,
+    head: &[u16; 1024],
+    chain: &[u16; 1024],
+    rank: &[u16; 1024],
+) -> bool
+    requires { ⌜ ByPlace (now key) (now tail) count ⌝ }
+    requires { ⌜ Listed (now key) (now tail) count count (now list) m ⌝ }
+    requires { ⌜ Filed (now key) (now tail) (now list) m m (now head) (now chain) ⌝ }
+    ensures { λ r. ⌜ Decides r (Unbarred (rowsIn (now (key .entry)) (now (tail .entry)) count)) ⌝ }
+{
+    let mut c = 0;
+    while c < m {
+        let i = row_at(list, c);
+        if !above_all(key, tail, head, chain, rank, i) {
+            let x = tail[i];
+            if lookup::leads(
+                key,
+                tail,
+                count,
+                flat::next_of(x),
+                flat::place_of(key[i]),
+                flat::exit_of(x),
+            ) {
+                return false;
+            }
+        }
+        c += 1;
+    }
+    true
+}
+
+// no crossing of the book is barred by the others: the candidates are listed, filed and numbered, and their numbers tested
+fn ring_free(key: &[u64; 1024], tail: &[u32; 1024], count: usize) -> bool
+    requires { ⌜ ByPlace (now key) (now tail) count ⌝ }
+    ensures { λ r. ⌜ Decides r (Unbarred (rowsIn (now (key .entry)) (now (tail .entry)) count)) ⌝ }
+{
+    let mut list = [0u16; 1024];
+    let m = candidates(key, tail, count, &mut list);
+    let mut head = [0u16; 1024];
+    let mut chain = [0u16; 1024];
+    file_rows(key, tail, count, &list, m, &mut head, &mut chain);
+    let mut rank = [0u16; 1024];
+    number_rows(key, tail, &list, m, &head, &chain, &mut rank);
+    ranks_fall(key, tail, count, &list, m, &head, &chain, &rank)
+}
+
+// One row goes on out of a place which another enters then, to one which another leaves then: without one there is no ring.
+fn linked(key: &[u64; 1024], tail: &[u32; 1024], count: usize) -> bool
+    requires { ⌜ ByPlace (now key) (now tail) count ⌝ }
+    ensures { λ r. ⌜ (r ≡ false → (i : ℕ) → Ringed (now (key .entry)) (now (tail .entry)) count i → ⊥) ⌝ }
+{
+    let mut i = 0;
+    while i < count {
+        let k = key[i];
+        let x = tail[i];
+        if lookup::entered_after(key, count, i, flat::place_of(k), flat::exit_of(x)) {
+            if !is_last(k, x) {
+                if lookup::left(key, tail, count, flat::next_of(x), flat::exit_of(x)) {
+                    return true;
+                }
+            }
+        }
+        i += 1;
+    }
+    false
+}
+
+// no crossing of the book is barred by the others; most often two that follow each other are not to be found
+pub fn exchange_kept(key: &[u64; 1024], tail: &[u32; 1024], count: usize) -> bool
+    requires { ⌜ ByPlace (now key) (now tail) count ⌝ }
+    ensures { λ r. ⌜ Decides r (Unbarred (rowsIn (now (key .entry)) (now (tail .entry)) count)) ⌝ }
+{
+    if !linked(key, tail, count) {
+        return true;
+    }
+    ring_free(key, tail, count)
 }
 
 // ---- the whole book

@@ -1,71 +1,35 @@
--- The small barn, and requests answered there beside any book: a search that nobody has to believe proposes the windows' entries and the
--- windows before, and the proved test accepts them. What it accepts is the chosen plan, or that there is none.
-use Prim.Native.Nat.{ℕ, zero, suc, _+_, _-_, _≤_, _<_, min}
-use mathlib.Core.Path.{_≡_, refl}
+-- Requests answered on any map beside any book: a search that nobody has to believe proposes the windows' entries and the windows before, and
+-- the proved test accepts them. What it accepts is the chosen plan, or that there is none.
+use Prim.Native.Nat.{ℕ, zero, suc, _+_, _≤_, _<_, min}
+use mathlib.Core.Path.{_≡_}
 use mathlib.Core.Bool.{Bool, true, false, _&&_, not}
-use mathlib.Core.List.{List, [], _∷_, _++_}
-use native.Mathlib.Omega.{arith}
-use lib.ListN.{length, getD, replicate}
+use mathlib.Core.List.{List, [], _∷_}
+use lib.ListN.{length, getD}
 use lib.Dec.{eqb, leb, ltb}
 use Rattle.laws.specs.Tests.{and-l, and-r}
 use Rattle.laws.specs.Lists.{mem-index, index-mem}
-use Rattle.rules.specs.declared.Place.{Place}
-use Rattle.rules.specs.declared.Link.{Link}
-use Rattle.rules.specs.declared.Map.{Map}
 use Rattle.rules.specs.declared.Row.{Row}
-use Rattle.rules.specs.Limits.{placeLimit, linkLimit}
-use Rattle.rules.specs.Map.{Yard, yardOf, zeroPlace, noLink, GoodMap}
+use Rattle.rules.specs.Map.{Yard}
 use Rattle.rules.specs.Rows.{load}
 use Rattle.rules.specs.Plan.{Stay, Permitted}
 use Rattle.rules.specs.Window.{Span}
 use Rattle.rules.specs.Chosen.{Chosen}
-use Rattle.lanes.specs.Yards.{YardRules, yard-rules}
+use Rattle.lanes.specs.Yards.{YardRules}
 use Rattle.lanes.specs.Best.{on-map}
-use Rattle.cases.specs.Checks.{every, lexB}
+use Rattle.cases.specs.Checks.{lexB}
 use Rattle.cases.specs.Next.{mark, leastEntry}
 use Rattle.cases.specs.Listing.{windowsBelow, windows-are, windows-all}
-use Rattle.cases.specs.Entries.{allBelow, noSpan, entriesB, Entered, entered}
+use Rattle.cases.specs.Entries.{noSpan, entriesB, Entered, entered}
 use Rattle.cases.specs.Trail.{chosenB, noneB, chosen-is, no-plan}
-use Rattle.cases.specs.Maps.{mapB, map-rules}
-
--- "place 0 capacity 2 duration 10; 1, 2, 3 capacity 1, durations 20, 30, 10"
-abbrev pub barnPlaces : List Place
-barnPlaces = record { capacity = 2; duration = 10 } ∷ record { capacity = 1; duration = 20 } ∷ record { capacity = 1; duration = 30 } ∷ record { capacity = 1; duration = 10 } ∷ []
-
--- the frames 020001, 020103, 020002, 020203, 020301, 020100
-abbrev pub barnLinks : List Link
-barnLinks = record { from = 0; to = 1 } ∷ record { from = 1; to = 3 } ∷ record { from = 0; to = 2 } ∷ record { from = 2; to = 3 } ∷ record { from = 3; to = 1 } ∷ record { from = 1; to = 0 } ∷ []
-
-abbrev pub barn : Yard
-barn = yardOf barnPlaces barnLinks
-
--- the same in array form
-abbrev pub barnMap : Map
-barnMap = record {
-  places = barnPlaces ++ replicate (placeLimit - 4) zeroPlace;
-  links = barnLinks ++ replicate (linkLimit - 6) noLink;
-  «place_count» = 4;
-  «link_count» = 6;
-}
-
-barn-test : mapB barnPlaces barnLinks ≡ true
-unfolding mapB every allBelow
-barn-test = refl
-
-pub barn-rules : YardRules barn
-barn-rules = yard-rules (map-rules barnPlaces barnLinks barn-test)
-
-pub barn-good : GoodMap barnMap
-barn-good = record { places-fit = omega arith; links-fit = omega arith; rules = map-rules barnPlaces barnLinks barn-test }
 
 -- ---- the search
 
-module _ (B : List Row) where
+module _ (Y : Yard) (B : List Row) where
   -- the least entry into v that any window yields
   intoLeast : List Span → List ℕ → Span → ℕ
   intoLeast [] d v = mark
   intoLeast (w ∷ ws) [] v = mark
-  intoLeast (w ∷ ws) (e ∷ d) v = min (leastEntry barn B w v e) (intoLeast ws d v)
+  intoLeast (w ∷ ws) (e ∷ d) v = min (leastEntry Y B w v e) (intoLeast ws d v)
 
   round : List Span → List ℕ → List Span → List ℕ → List ℕ
   round ws d [] es = []
@@ -79,14 +43,14 @@ module _ (B : List Row) where
   -- the entry of a first stay
   begins : ℕ → ℕ → List Span → List ℕ
   begins p s [] = []
-  begins p s (v ∷ vs) = (elim (eqb (v .place) p && (leb (v .from) s && leb (s + barn .dur (v .place)) (v .to))) [ true ↦ s | false ↦ mark ]) ∷ begins p s vs
+  begins p s (v ∷ vs) = (elim (eqb (v .place) p && (leb (v .from) s && leb (s + Y .dur (v .place)) (v .to))) [ true ↦ s | false ↦ mark ]) ∷ begins p s vs
 
   -- of the windows that yield v's entry u, counted from i, the one with the least (entry, place, start); b is the best so far
   bestOf : List Span → List ℕ → Span → ℕ → ℕ → ℕ → ℕ → Span → ℕ
   bestOf [] d v u i b be bw = b
   bestOf (w ∷ ws) [] v u i b be bw = b
   bestOf (w ∷ ws) (e ∷ d) v u i b be bw =
-      elim (eqb (leastEntry barn B w v e) u && not (lexB be (bw .place) (bw .from) e (w .place) (w .from))) [ true ↦ bestOf ws d v u (suc i) i e w | false ↦ bestOf ws d v u (suc i) b be bw ]
+      elim (eqb (leastEntry Y B w v e) u && not (lexB be (bw .place) (bw .from) e (w .place) (w .from))) [ true ↦ bestOf ws d v u (suc i) i e w | false ↦ bestOf ws d v u (suc i) b be bw ]
 
   priors : List Span → List ℕ → List Span → List ℕ → List ℕ
   priors ws d [] es = []
@@ -101,30 +65,30 @@ goalOf dest (w ∷ ws) (e ∷ d) i b be = elim (eqb (w .place) dest && ltb e be)
 
 -- ---- what is accepted
 
-module _ (B : List Row) (start dest s : ℕ) where
+module _ (Y : Yard) (B : List Row) (start dest s : ℕ) where
   abbrev ws : List Span
-  ws = windowsBelow barn B 4
+  ws = windowsBelow Y B (Y .places)
 
   unfoldable dist : List ℕ
   unfolding rounds begins round intoLeast
-  dist = rounds B ws (length ws) (begins B start s ws)
+  dist = rounds Y B ws (length ws) (begins Y B start s ws)
 
   unfoldable back : List ℕ
   unfolding dist priors bestOf
-  back = priors B ws dist ws dist
+  back = priors Y B ws dist ws dist
 
   unfoldable goal : ℕ
   unfolding dist goalOf
   goal = goalOf dest ws dist 0 (length ws) mark
 
   abbrev tableB : Bool
-  tableB = entriesB barn B start s ws dist back
+  tableB = entriesB Y B start s ws dist back
 
   abbrev planTests : List Stay → Bool
-  planTests plan = chosenB barn B start dest s ws dist back goal plan
+  planTests plan = chosenB Y B start dest s ws dist back goal plan
 
   abbrev noneTests : Bool
-  noneTests = noneB barn B start dest s ws dist back
+  noneTests = noneB Y B start dest s ws dist back
 
   unfoldable pub planB : List Stay → Bool
   unfolding dist back goal
@@ -134,17 +98,17 @@ module _ (B : List Row) (start dest s : ℕ) where
   unfolding dist back goal
   refusedB = tableB && noneTests
 
-  module _ (room : (p u : ℕ) → p < barn .places → load B p u ≤ barn .cap p) where
-    barn-entered : tableB ≡ true → Entered barn B start s ws dist
-    barn-entered t =
-        entered back (λ i h. windows-are barn B 4 (getD ws i noSpan) (index-mem noSpan ws i h))
-        (λ w x. mem-index noSpan (windows-all barn B (barn-rules .long) 4 w (on-map barn B start s barn-rules room x) x))
-        (barn-rules .long) t
+  module _ (R : YardRules Y) (room : (p u : ℕ) → p < Y .places → load B p u ≤ Y .cap p) where
+    all-entered : tableB ≡ true → Entered Y B start s ws dist
+    all-entered t =
+        entered back (λ i h. windows-are Y B (Y .places) (getD ws i noSpan) (index-mem noSpan ws i h))
+        (λ w x. mem-index noSpan (windows-all Y B (R .long) (Y .places) w (on-map Y B start s R room x) x))
+        (R .long) t
 
-    pub plan-chosen : (plan : List Stay) → planB plan ≡ true → Chosen barn B start dest s plan
+    pub plan-chosen : (plan : List Stay) → planB plan ≡ true → Chosen Y B start dest s plan
     unfolding planB
-    plan-chosen plan t = chosen-is barn B start dest s ws dist back (barn-entered (and-l tableB (planTests plan) t)) barn-rules room goal plan (and-r tableB (planTests plan) t)
+    plan-chosen plan t = chosen-is Y B start dest s ws dist back (all-entered (and-l tableB (planTests plan) t)) R room goal plan (and-r tableB (planTests plan) t)
 
-    pub none-permitted : refusedB ≡ true → (plan : List Stay) → Permitted barn B start dest s plan → ⊥
+    pub none-permitted : refusedB ≡ true → (plan : List Stay) → Permitted Y B start dest s plan → ⊥
     unfolding refusedB
-    none-permitted t = no-plan barn B start dest s ws dist back (barn-entered (and-l tableB noneTests t)) (and-r tableB noneTests t)
+    none-permitted t = no-plan Y B start dest s ws dist back (all-entered (and-l tableB noneTests t)) (and-r tableB noneTests t)

@@ -1,10 +1,10 @@
--- What a line of the table of cases means: that the calls' contracts hold of the document's answer, and for planning also what the contract
+-- What a line of a table of cases means on a map: that the calls' contracts hold of the document's answer, and for planning also what the contract
 -- says of the plan. A test of each line is proved to give its meaning, for any line at all.
 use Prim.Native.Nat.{ℕ, _+_, _≤_, _<_}
 use mathlib.Core.Path.{_≡_, refl, sym, ap, subst, subst₂, _∙_}
 use mathlib.Core.Logic.{inl, inr}
 use mathlib.Core.Bool.{Bool, true, false, _&&_, not}
-use mathlib.Core.List.{List, [], _∷_}
+use mathlib.Core.List.{List, [], _∷_, List·Memᴰ}
 use native.Mathlib.Omega.{arith}
 use lib.ListN.{length}
 use lib.Dec.{eqb, leb, ltb}
@@ -17,25 +17,38 @@ use Rattle.rules.specs.declared.Refusal.{Refusal}
 use Rattle.rules.specs.declared.Refusal.the-variants.{BadMap, BadBook, OffMap, OffDay, NoPlan, ShortList, FullBook, NoTickets, UnknownTicket, BadSize, BadCursor, BadFrame}
 use Rattle.rules.specs.declared.Planned.{Planned}
 use Rattle.rules.specs.declared.Planned.the-variants.{Done, Refused}
+use Rattle.rules.specs.declared.Booking.{Booking}
 use Rattle.rules.specs.declared.Booked.the-variants.{Done as Issues}
 use Rattle.rules.specs.declared.Cancelled.the-variants.{Done as Removes}
 use Rattle.rules.specs.declared.Paged.{Paged}
 use Rattle.rules.specs.declared.Paged.the-variants.{Done as Shows}
 use Rattle.rules.specs.Limits.{day, rowLimit, ticketLimit, pageLimit}
-use Rattle.rules.specs.Rows.{Key, noRow, keep, insertAll}
+use Rattle.rules.specs.Map.{linked, Yard, mapYard}
+use Rattle.rules.specs.Rows.{Key, noRow, lessb, covers, load, keep, insertAll}
+use Rattle.rules.specs.RingLaws.{leadsb}
 use Rattle.rules.specs.Plan.{Stay, stayAt, Permitted, arrival, runRows}
 use Rattle.rules.specs.Page.{pageRows, pageMore, lastKey}
 use Rattle.rules.specs.Book.{WellFormed, GoodBook, rowsOf, bookOf, ofTicket, otherTicket}
-use Rattle.rules.specs.Chosen.{Chosen}
 use Rattle.rules.specs.Bytes.{records, written}
+use Rattle.rules.specs.Gate.{papersOf, Checked}
 use Rattle.rules.specs.Gate.Checked.{sound}
-use Rattle.rules.specs.Answer.{PlanSound, PlanIs, BookIs, CancelIs, Known, PageSound, PageIs, CursorFits}
+use Rattle.rules.specs.Answer.{PlanSound, PlanIs, BookSound, BookIs, CancelIs, Known, PageSound, PageIs, CursorFits}
 use Rattle.keeping.specs.Books.{rows-of-book, good-book}
 use Rattle.keeping.specs.Changes.{mem-keep}
-use Rattle.cases.specs.Checks.{every, holds, sameRows, same-rows, sameAnswer, same-answer}
-use Rattle.cases.specs.Permits.{permittedB, permitted-is}
-use Rattle.cases.specs.Barn.{barn, barnMap, barn-good, planB, refusedB, none-permitted}
+use Rattle.cases.specs.Checks.{every, holds, allB, all-out, under, lexB, samePlan, sameRows, same-rows, sameAnswer, same-answer}
+use Rattle.cases.specs.Edges.{endIn}
+use Rattle.cases.specs.Next.{scan, leastEntry}
+use Rattle.cases.specs.Listing.{windowsBelow}
+use Rattle.cases.specs.Entries.{entriesB}
+use Rattle.cases.specs.Trail.{rivalB, priorB, beginsB, trailB, laterB, chosenB, closedB, noneB}
+use Rattle.cases.specs.Permits.{freeB, permittedB, permitted-is}
+use Rattle.cases.specs.Maps.{Barn, yard, arrays, arrays-yard, barn-rules, barn-good}
+use Rattle.cases.specs.Barn.{planB, refusedB, none-permitted}
 use Rattle.cases.specs.Past.{Past, booked, cancelled, nextTicket, rowsNow, bookNow, askTests, bookTests, pastB, past-formed, Answered, answered}
+
+-- "Stays are written place:entry-exit."
+abbrev pub stay : ℕ → ℕ → ℕ → Stay
+stay p a b = record { place = p; entry = a; exit = b }
 
 -- each beside the book of a past
 pub data Case : Type 0 where
@@ -52,314 +65,336 @@ pub data Case : Type 0 where
   -- a page of this size after the cursor: these rows, and whether there are more
   pages : Past → (size : ℕ) → Key → List Row → Bool → Case
 
--- ---- what each line says
-
--- the plan is the chosen one, and the call's contract holds of it for any list that is long enough
-pub record Plans (h : Past) (start dest s : ℕ) (plan : List Stay) (a : ℕ) : Type 0 where
-  pub formed : WellFormed barn (rowsNow h) (nextTicket h)
-  pub answer : Answered h start dest s plan
-  pub arrives : arrival plan ≡ a
-  pub says : (was : List ℕ) → length plan ≤ records was
-      → PlanIs barnMap (bookNow h) start dest s was (written (runRows 0 plan) was) (Done (record { arrival = a; count = length plan }))
-
-pub record Permits (h : Past) (start dest s : ℕ) (plan : List Stay) (a : ℕ) : Type 0 where
-  pub permitted : Permitted barn (rowsNow h) start dest s plan
-  pub arrives : arrival plan ≡ a
-
--- the table's condition of a refusal
-abbrev pub Why : Past → ℕ → ℕ → ℕ → Refusal → Type 0
-Why h start dest s BadMap = ⊥
-Why h start dest s BadBook = ⊥
-Why h start dest s OffMap = (start < 4) × (dest < 4) → ⊥
-Why h start dest s OffDay = day < s
-Why h start dest s NoPlan = (plan : List Stay) → Permitted barn (rowsNow h) start dest s plan → ⊥
-Why h start dest s ShortList = ⊥
-Why h start dest s FullBook = ⊥
-Why h start dest s NoTickets = ⊥
-Why h start dest s UnknownTicket = ⊥
-Why h start dest s BadSize = ⊥
-Why h start dest s BadCursor = ⊥
-Why h start dest s BadFrame = ⊥
-
-pub record Refuses (h : Past) (start dest s : ℕ) (r : Refusal) : Type 0 where
-  pub formed : WellFormed barn (rowsNow h) (nextTicket h)
-  pub why : Why h start dest s r
-  pub says : (was : List ℕ) → PlanIs barnMap (bookNow h) start dest s was was (Refused r)
-
--- the book after is the book of the longer past
-pub record Books (h : Past) (start dest s : ℕ) (plan : List Stay) (k a : ℕ) : Type 0 where
-  pub answer : Answered h start dest s plan
-  pub formed : WellFormed barn (rowsNow (booked h start dest s plan)) (k + 1)
-  pub says : BookIs barnMap (bookNow h) start dest s (record { book = bookNow (booked h start dest s plan); answer = Issues (record { ticket = k; arrival = a; count = length plan }) })
-
-pub record Cancels (h : Past) (k n : ℕ) : Type 0 where
-  pub formed : WellFormed barn (rowsNow (cancelled h k)) (nextTicket h)
-  pub says : CancelIs barnMap (bookNow h) k (record { book = bookNow (cancelled h k); answer = Removes n })
-
 abbrev pub cursorOf : Key → Cursor
 cursorOf k = record { place = k .place; entry = k .entry; ticket = k .ticket }
 
-pub record Pages (h : Past) (size : ℕ) (k : Key) (rows : List Row) (more : Bool) : Type 0 where
-  pub formed : WellFormed barn (rowsNow h) (nextTicket h)
-  pub shows : pageRows size k (rowsNow h) ≡ rows
-  pub says : (was : List ℕ) → size ≤ records was
-      → PageIs barnMap (bookNow h) size k was (written rows was) (Shows (record { count = length rows; more = more; cursor = cursorOf (lastKey k rows) }))
+module _ (G : Barn) where
+  abbrev Y : Yard
+  Y = yard G
 
-abbrev pub Means : Case → Type 0
-Means (plans h start dest s plan a) = Plans h start dest s plan a
-Means (permits h start dest s plan a) = Permits h start dest s plan a
-Means (refuses h start dest s r) = Refuses h start dest s r
-Means (books h start dest s plan k a) = Books h start dest s plan k a
-Means (cancels h k n) = Cancels h k n
-Means (pages h size k rows more) = Pages h size k rows more
+  -- ---- what each line says
 
--- ---- the tests
+  -- the plan is the chosen one, and the call's contract holds of it for any list that is long enough
+  pub record Plans (h : Past) (start dest s : ℕ) (plan : List Stay) (a : ℕ) : Type 0 where
+    pub formed : WellFormed Y (rowsNow h) (nextTicket h)
+    pub answer : Answered G h start dest s plan
+    pub arrives : arrival plan ≡ a
+    pub says : (was : List ℕ) → length plan ≤ records was
+        → PlanIs (arrays G) (bookNow h) start dest s was (written (runRows 0 plan) was) (Done (record { arrival = a; count = length plan }))
 
-abbrev planCase : Past → ℕ → ℕ → ℕ → List Stay → ℕ → List Bool
-planCase h start dest s plan a = pastB h ∷ every (askTests start dest s) ∷ planB (rowsNow h) start dest s plan ∷ eqb (arrival plan) a ∷ []
+  pub record Permits (h : Past) (start dest s : ℕ) (plan : List Stay) (a : ℕ) : Type 0 where
+    pub permitted : Permitted Y (rowsNow h) start dest s plan
+    pub arrives : arrival plan ≡ a
 
-abbrev permitCase : Past → ℕ → ℕ → ℕ → List Stay → ℕ → List Bool
-permitCase h start dest s plan a =
-    pastB h ∷ permittedB barn (rowsNow h) dest plan ∷ eqb ((stayAt plan 0) .place) start ∷ eqb ((stayAt plan 0) .entry) s ∷ eqb (arrival plan) a ∷ []
+  -- the table's condition of a refusal
+  abbrev pub Why : Past → ℕ → ℕ → ℕ → Refusal → Type 0
+  Why h start dest s BadMap = ⊥
+  Why h start dest s BadBook = ⊥
+  Why h start dest s OffMap = (start < Y .places) × (dest < Y .places) → ⊥
+  Why h start dest s OffDay = day < s
+  Why h start dest s NoPlan = (plan : List Stay) → Permitted Y (rowsNow h) start dest s plan → ⊥
+  Why h start dest s ShortList = ⊥
+  Why h start dest s FullBook = ⊥
+  Why h start dest s NoTickets = ⊥
+  Why h start dest s UnknownTicket = ⊥
+  Why h start dest s BadSize = ⊥
+  Why h start dest s BadCursor = ⊥
+  Why h start dest s BadFrame = ⊥
 
-abbrev bookCase : Past → ℕ → ℕ → ℕ → List Stay → ℕ → ℕ → List Bool
-bookCase h start dest s plan k a = pastB (booked h start dest s plan) ∷ eqb (nextTicket h) k ∷ eqb (arrival plan) a ∷ []
+  pub record Refuses (h : Past) (start dest s : ℕ) (r : Refusal) : Type 0 where
+    pub formed : WellFormed Y (rowsNow h) (nextTicket h)
+    pub why : Why h start dest s r
+    pub says : (was : List ℕ) → PlanIs (arrays G) (bookNow h) start dest s was was (Refused r)
 
-abbrev cancelCase : Past → ℕ → ℕ → List Bool
-cancelCase h k n = pastB h ∷ eqb (length (keep (ofTicket k) (rowsNow h))) n ∷ ltb 0 n ∷ []
+  -- the book after is the book of the longer past
+  pub record Books (h : Past) (start dest s : ℕ) (plan : List Stay) (k a : ℕ) : Type 0 where
+    pub answer : Answered G h start dest s plan
+    pub formed : WellFormed Y (rowsNow (booked h start dest s plan)) (k + 1)
+    pub says : BookIs (arrays G) (bookNow h) start dest s (record { book = bookNow (booked h start dest s plan); answer = Issues (record { ticket = k; arrival = a; count = length plan }) })
 
-abbrev pageCase : Past → ℕ → Key → List Row → Bool → List Bool
-pageCase h size k rows more =
-    pastB h ∷ sameRows (pageRows size k (rowsNow h)) rows ∷ sameAnswer more (pageMore size k (rowsNow h)) ∷ leb 1 size ∷ leb size pageLimit
-    ∷ ltb (k .place) 4 ∷ leb (k .entry) day ∷ ltb (k .ticket) ticketLimit ∷ []
+  pub record Cancels (h : Past) (k n : ℕ) : Type 0 where
+    pub formed : WellFormed Y (rowsNow (cancelled h k)) (nextTicket h)
+    pub says : CancelIs (arrays G) (bookNow h) k (record { book = bookNow (cancelled h k); answer = Removes n })
 
-abbrev refuseCase : Past → ℕ → ℕ → ℕ → Refusal → List Bool
-refuseCase h start dest s BadMap = false ∷ []
-refuseCase h start dest s BadBook = false ∷ []
-refuseCase h start dest s OffMap = pastB h ∷ not (ltb start 4 && ltb dest 4) ∷ []
-refuseCase h start dest s OffDay = pastB h ∷ ltb start 4 ∷ ltb dest 4 ∷ ltb day s ∷ []
-refuseCase h start dest s NoPlan = pastB h ∷ every (askTests start dest s) ∷ refusedB (rowsNow h) start dest s ∷ []
-refuseCase h start dest s ShortList = false ∷ []
-refuseCase h start dest s FullBook = false ∷ []
-refuseCase h start dest s NoTickets = false ∷ []
-refuseCase h start dest s UnknownTicket = false ∷ []
-refuseCase h start dest s BadSize = false ∷ []
-refuseCase h start dest s BadCursor = false ∷ []
-refuseCase h start dest s BadFrame = false ∷ []
+  pub record Pages (h : Past) (size : ℕ) (k : Key) (rows : List Row) (more : Bool) : Type 0 where
+    pub formed : WellFormed Y (rowsNow h) (nextTicket h)
+    pub shows : pageRows size k (rowsNow h) ≡ rows
+    pub says : (was : List ℕ) → size ≤ records was
+        → PageIs (arrays G) (bookNow h) size k was (written rows was) (Shows (record { count = length rows; more = more; cursor = cursorOf (lastKey k rows) }))
 
-unfoldable pub caseB : Case → Bool
-caseB (plans h start dest s plan a) = every (planCase h start dest s plan a)
-caseB (permits h start dest s plan a) = every (permitCase h start dest s plan a)
-caseB (refuses h start dest s r) = every (refuseCase h start dest s r)
-caseB (books h start dest s plan k a) = every (bookCase h start dest s plan k a)
-caseB (cancels h k n) = every (cancelCase h k n)
-caseB (pages h size k rows more) = every (pageCase h size k rows more)
+  abbrev pub Means : Case → Type 0
+  Means (plans h start dest s plan a) = Plans h start dest s plan a
+  Means (permits h start dest s plan a) = Permits h start dest s plan a
+  Means (refuses h start dest s r) = Refuses h start dest s r
+  Means (books h start dest s plan k a) = Books h start dest s plan k a
+  Means (cancels h k n) = Cancels h k n
+  Means (pages h size k rows more) = Pages h size k rows more
 
--- ---- each test gives its line's meaning
+  -- ---- the tests
 
-module _ (h : Past) (W : WellFormed barn (rowsNow h) (nextTicket h)) where
-  good : GoodBook barn (bookNow h)
-  good = good-book W
+  abbrev planCase : Past → ℕ → ℕ → ℕ → List Stay → ℕ → List Bool
+  planCase h start dest s plan a = pastB G h ∷ every (askTests G start dest s) ∷ planB Y (rowsNow h) start dest s plan ∷ eqb (arrival plan) a ∷ []
 
-  -- the rows of the array form are the past's
-  read : rowsOf (bookNow h) ≡ rowsNow h
-  read = rows-of-book (rowsNow h) (nextTicket h)
+  abbrev permitCase : Past → ℕ → ℕ → ℕ → List Stay → ℕ → List Bool
+  permitCase h start dest s plan a =
+      pastB G h ∷ permittedB Y (rowsNow h) dest plan ∷ eqb ((stayAt plan 0) .place) start ∷ eqb ((stayAt plan 0) .entry) s ∷ eqb (arrival plan) a ∷ []
 
-  -- a sound map and book, and then what is said over the past's rows
-  plan-says : {start dest s : ℕ} {was out : List ℕ} {r : Planned} → PlanSound barn (rowsNow h) start dest s was out r → PlanIs barnMap (bookNow h) start dest s was out r
-  plan-says {start} {dest} {s} {was} {out} {r} x = sound barn-good good (subst (λ (l : List Row). PlanSound barn l start dest s was out r) (sym read) x)
+  abbrev bookCase : Past → ℕ → ℕ → ℕ → List Stay → ℕ → ℕ → List Bool
+  bookCase h start dest s plan k a = pastB G (booked h start dest s plan) ∷ eqb (nextTicket h) k ∷ eqb (arrival plan) a ∷ []
 
-  page-says : {size : ℕ} {k : Key} {was out : List ℕ} {r : Paged} → PageSound barn (rowsNow h) size k was out r → PageIs barnMap (bookNow h) size k was out r
-  page-says {size} {k} {was} {out} {r} x = sound barn-good good (subst (λ (l : List Row). PageSound barn l size k was out r) (sym read) x)
+  abbrev cancelCase : Past → ℕ → ℕ → List Bool
+  cancelCase h k n = pastB G h ∷ eqb (length (keep (ofTicket k) (rowsNow h))) n ∷ ltb 0 n ∷ []
 
-plans-mean : (h : Past) (start dest s : ℕ) (plan : List Stay) (a : ℕ) → every (planCase h start dest s plan a) ≡ true → Plans h start dest s plan a
-plans-mean h start dest s plan a t =
-    let ts = planCase h start dest s plan a in
-    let W = past-formed h (holds ts t 0) in
-    let ask = holds ts t 1 in
-    let on = ltb-true start 4 (holds (askTests start dest s) ask 0) in
-    let to = ltb-true dest 4 (holds (askTests start dest s) ask 1) in
-    let d = leb-true s day (holds (askTests start dest s) ask 2) in
-    let A = answered h start dest s plan W to (holds ts t 2) in
-    let e = eqb-true (arrival plan) a (holds ts t 3) in
-    record {
-      formed = W;
-      answer = A;
-      arrives = e;
-      says = λ was l.
-          plan-says h W
-          (inr ((on, to), inr (d, inr ((plan, A .permitted), (plan, A .chosen, inr (l, record { code = refl; arrives = sym e; counts = refl; holds = refl }))))));
-    }
+  abbrev pageCase : Past → ℕ → Key → List Row → Bool → List Bool
+  pageCase h size k rows more =
+      pastB G h ∷ sameRows (pageRows size k (rowsNow h)) rows ∷ sameAnswer more (pageMore size k (rowsNow h)) ∷ leb 1 size ∷ leb size pageLimit
+      ∷ ltb (k .place) (Y .places) ∷ leb (k .entry) day ∷ ltb (k .ticket) ticketLimit ∷ []
 
-permits-mean : (h : Past) (start dest s : ℕ) (plan : List Stay) (a : ℕ) → every (permitCase h start dest s plan a) ≡ true → Permits h start dest s plan a
-permits-mean h start dest s plan a t =
-    let ts = permitCase h start dest s plan a in
-    let P = permitted-is barn (rowsNow h) dest (past-formed h (holds ts t 0) .room) plan (holds ts t 1) in
-    let p = eqb-true ((stayAt plan 0) .place) start (holds ts t 2) in
-    let q = eqb-true ((stayAt plan 0) .entry) s (holds ts t 3) in
-    record { permitted = subst₂ (λ x y. Permitted barn (rowsNow h) x dest y plan) p q P; arrives = eqb-true (arrival plan) a (holds ts t 4) }
+  abbrev refuseCase : Past → ℕ → ℕ → ℕ → Refusal → List Bool
+  refuseCase h start dest s BadMap = false ∷ []
+  refuseCase h start dest s BadBook = false ∷ []
+  refuseCase h start dest s OffMap = pastB G h ∷ not (ltb start (Y .places) && ltb dest (Y .places)) ∷ []
+  refuseCase h start dest s OffDay = pastB G h ∷ ltb start (Y .places) ∷ ltb dest (Y .places) ∷ ltb day s ∷ []
+  refuseCase h start dest s NoPlan = pastB G h ∷ every (askTests G start dest s) ∷ refusedB Y (rowsNow h) start dest s ∷ []
+  refuseCase h start dest s ShortList = false ∷ []
+  refuseCase h start dest s FullBook = false ∷ []
+  refuseCase h start dest s NoTickets = false ∷ []
+  refuseCase h start dest s UnknownTicket = false ∷ []
+  refuseCase h start dest s BadSize = false ∷ []
+  refuseCase h start dest s BadCursor = false ∷ []
+  refuseCase h start dest s BadFrame = false ∷ []
 
--- a start or destination off the map is refused beside any book
-pub off-map : (h : Past) (start dest s : ℕ) → pastB h ≡ true → ((start < 4) × (dest < 4) → ⊥) → Refuses h start dest s OffMap
-off-map h start dest s t off =
-    let W = past-formed h t in
-    record { formed = W; why = off; says = λ was. plan-says h W (inl (off, record { code = refl; arrives = refl; counts = refl; holds = refl })) }
+  unfoldable pub caseB : Case → Bool
+  caseB (plans h start dest s plan a) = every (planCase h start dest s plan a)
+  caseB (permits h start dest s plan a) = every (permitCase h start dest s plan a)
+  caseB (refuses h start dest s r) = every (refuseCase h start dest s r)
+  caseB (books h start dest s plan k a) = every (bookCase h start dest s plan k a)
+  caseB (cancels h k n) = every (cancelCase h k n)
+  caseB (pages h size k rows more) = every (pageCase h size k rows more)
 
-off-day : (h : Past) (start dest s : ℕ) → every (refuseCase h start dest s OffDay) ≡ true → Refuses h start dest s OffDay
-off-day h start dest s t =
-    let ts = refuseCase h start dest s OffDay in
-    let W = past-formed h (holds ts t 0) in
-    let on = ltb-true start 4 (holds ts t 1) in
-    let to = ltb-true dest 4 (holds ts t 2) in
-    let late = ltb-true day s (holds ts t 3) in
-    record {
-      formed = W;
-      why = late;
-      says = λ was. plan-says h W (inr ((on, to), inl (λ d. omega arith, record { code = refl; arrives = refl; counts = refl; holds = refl })));
-    }
+  -- ---- each test gives its line's meaning
 
-no-way : (h : Past) (start dest s : ℕ) → every (refuseCase h start dest s NoPlan) ≡ true → Refuses h start dest s NoPlan
-no-way h start dest s t =
-    let ts = refuseCase h start dest s NoPlan in
-    let W = past-formed h (holds ts t 0) in
-    let ask = holds ts t 1 in
-    let on = ltb-true start 4 (holds (askTests start dest s) ask 0) in
-    let to = ltb-true dest 4 (holds (askTests start dest s) ask 1) in
-    let d = leb-true s day (holds (askTests start dest s) ask 2) in
-    let none = none-permitted (rowsNow h) start dest s (W .room) (holds ts t 2) in
-    record {
-      formed = W;
-      why = none;
-      says = λ was. plan-says h W (inr ((on, to), inr (d, inl (λ x. none (x .0) (x .1), record { code = refl; arrives = refl; counts = refl; holds = refl }))));
-    }
+  module _ (h : Past) (W : WellFormed Y (rowsNow h) (nextTicket h)) where
+    good : GoodBook (mapYard (arrays G)) (bookNow h)
+    good = good-book (subst (λ (Z : Yard). WellFormed Z (rowsNow h) (nextTicket h)) (sym (arrays-yard G)) W)
 
-no-test : {X : Type 0} → every (false ∷ []) ≡ true → X
-no-test t = absurd (not-both (holds (false ∷ []) t 0) refl)
+    -- the rows of the array form are the past's
+    read : rowsOf (bookNow h) ≡ rowsNow h
+    read = rows-of-book (rowsNow h) (nextTicket h)
 
-refuses-mean : (h : Past) (start dest s : ℕ) (r : Refusal) → every (refuseCase h start dest s r) ≡ true → Refuses h start dest s r
-refuses-mean h start dest s BadMap t = no-test t
-refuses-mean h start dest s BadBook t = no-test t
-refuses-mean h start dest s OffMap t =
-    let ts = refuseCase h start dest s OffMap in
-    off-map h start dest s (holds ts t 0) (λ on. not-both (and-in (lt-ltb start 4 (on .0)) (lt-ltb dest 4 (on .1))) (not-true (ltb start 4 && ltb dest 4) (holds ts t 1)))
-refuses-mean h start dest s OffDay t = off-day h start dest s t
-refuses-mean h start dest s NoPlan t = no-way h start dest s t
-refuses-mean h start dest s ShortList t = no-test t
-refuses-mean h start dest s FullBook t = no-test t
-refuses-mean h start dest s NoTickets t = no-test t
-refuses-mean h start dest s UnknownTicket t = no-test t
-refuses-mean h start dest s BadSize t = no-test t
-refuses-mean h start dest s BadCursor t = no-test t
-refuses-mean h start dest s BadFrame t = no-test t
+    -- a sound map and book, and then what is said over the yard and the past's rows
+    says : (S : Yard → List Row → Type 0) {refused : ℕ → Type 0} → S Y (rowsNow h) → Checked (papersOf (arrays G) (bookNow h)) refused (S (mapYard (arrays G)) (rowsOf (bookNow h)))
+    says S x = sound (barn-good G) good (subst₂ S (sym (arrays-yard G)) (sym read) x)
 
-books-mean : (h : Past) (start dest s : ℕ) (plan : List Stay) (k a : ℕ) → every (bookCase h start dest s plan k a) ≡ true → Books h start dest s plan k a
-unfolding pastB
-books-mean h start dest s plan k a t =
-    let ts = bookCase h start dest s plan k a in
-    let past = holds ts t 0 in
-    let bs = bookTests h start dest s plan in
-    let u = and-r (pastB h) (every bs) past in
-    let W = past-formed h (and-l (pastB h) (every bs) past) in
-    let ask = holds bs u 0 in
-    let on = ltb-true start 4 (holds (askTests start dest s) ask 0) in
-    let to = ltb-true dest 4 (holds (askTests start dest s) ask 1) in
-    let d = leb-true s day (holds (askTests start dest s) ask 2) in
-    let A = answered h start dest s plan W to (holds bs u 1) in
-    let before = ltb-true (nextTicket h) ticketLimit (holds bs u 2) in
-    let fits = leb-true (length (rowsNow h) + length plan) rowLimit (holds bs u 3) in
-    let e = eqb-true (nextTicket h) k (holds ts t 1) in
-    let here : rowsNow h ≡ rowsOf (bookNow h) = sym (read h W) in
-    record {
-      answer = A;
-      formed = subst (λ (n : ℕ). WellFormed barn (rowsNow (booked h start dest s plan)) (n + 1)) e (past-formed (booked h start dest s plan) past);
-      says =
-          sound barn-good (good h W)
-          (inr (
-            (on, to),
-            inr (
-              d,
+    plan-says : {start dest s : ℕ} {was out : List ℕ} {r : Planned} → PlanSound Y (rowsNow h) start dest s was out r → PlanIs (arrays G) (bookNow h) start dest s was out r
+    plan-says {start} {dest} {s} {was} {out} {r} = says (λ Z l. PlanSound Z l start dest s was out r)
+
+    book-says : {start dest s : ℕ} {r : Booking} → BookSound Y (rowsNow h) (bookNow h) start dest s r → BookIs (arrays G) (bookNow h) start dest s r
+    book-says {start} {dest} {s} {r} = says (λ Z l. BookSound Z l (bookNow h) start dest s r)
+
+    page-says : {size : ℕ} {k : Key} {was out : List ℕ} {r : Paged} → PageSound Y (rowsNow h) size k was out r → PageIs (arrays G) (bookNow h) size k was out r
+    page-says {size} {k} {was} {out} {r} = says (λ Z l. PageSound Z l size k was out r)
+
+  plans-mean : (h : Past) (start dest s : ℕ) (plan : List Stay) (a : ℕ) → every (planCase h start dest s plan a) ≡ true → Plans h start dest s plan a
+  plans-mean h start dest s plan a t =
+      let ts = planCase h start dest s plan a in
+      let W = past-formed G h (holds ts t 0) in
+      let ask = holds ts t 1 in
+      let on = ltb-true start (Y .places) (holds (askTests G start dest s) ask 0) in
+      let to = ltb-true dest (Y .places) (holds (askTests G start dest s) ask 1) in
+      let d = leb-true s day (holds (askTests G start dest s) ask 2) in
+      let A = answered G h start dest s plan W to (holds ts t 2) in
+      let e = eqb-true (arrival plan) a (holds ts t 3) in
+      record {
+        formed = W;
+        answer = A;
+        arrives = e;
+        says = λ was l.
+            plan-says h W
+            (inr ((on, to), inr (d, inr ((plan, A .permitted), (plan, A .chosen, inr (l, record { code = refl; arrives = sym e; counts = refl; holds = refl }))))));
+      }
+
+  permits-mean : (h : Past) (start dest s : ℕ) (plan : List Stay) (a : ℕ) → every (permitCase h start dest s plan a) ≡ true → Permits h start dest s plan a
+  permits-mean h start dest s plan a t =
+      let ts = permitCase h start dest s plan a in
+      let P = permitted-is Y (rowsNow h) dest (past-formed G h (holds ts t 0) .room) plan (holds ts t 1) in
+      let p = eqb-true ((stayAt plan 0) .place) start (holds ts t 2) in
+      let q = eqb-true ((stayAt plan 0) .entry) s (holds ts t 3) in
+      record { permitted = subst₂ (λ x y. Permitted Y (rowsNow h) x dest y plan) p q P; arrives = eqb-true (arrival plan) a (holds ts t 4) }
+
+  -- a start or destination off the map is refused beside any book
+  pub off-map : (h : Past) (start dest s : ℕ) → pastB G h ≡ true → ((start < Y .places) × (dest < Y .places) → ⊥) → Refuses h start dest s OffMap
+  off-map h start dest s t off =
+      let W = past-formed G h t in
+      record { formed = W; why = off; says = λ was. plan-says h W (inl (off, record { code = refl; arrives = refl; counts = refl; holds = refl })) }
+
+  off-day : (h : Past) (start dest s : ℕ) → every (refuseCase h start dest s OffDay) ≡ true → Refuses h start dest s OffDay
+  off-day h start dest s t =
+      let ts = refuseCase h start dest s OffDay in
+      let W = past-formed G h (holds ts t 0) in
+      let on = ltb-true start (Y .places) (holds ts t 1) in
+      let to = ltb-true dest (Y .places) (holds ts t 2) in
+      let late = ltb-true day s (holds ts t 3) in
+      record {
+        formed = W;
+        why = late;
+        says = λ was. plan-says h W (inr ((on, to), inl (λ d. omega arith, record { code = refl; arrives = refl; counts = refl; holds = refl })));
+      }
+
+  no-way : (h : Past) (start dest s : ℕ) → every (refuseCase h start dest s NoPlan) ≡ true → Refuses h start dest s NoPlan
+  no-way h start dest s t =
+      let ts = refuseCase h start dest s NoPlan in
+      let W = past-formed G h (holds ts t 0) in
+      let ask = holds ts t 1 in
+      let on = ltb-true start (Y .places) (holds (askTests G start dest s) ask 0) in
+      let to = ltb-true dest (Y .places) (holds (askTests G start dest s) ask 1) in
+      let d = leb-true s day (holds (askTests G start dest s) ask 2) in
+      let none = none-permitted Y (rowsNow h) start dest s (barn-rules G) (W .room) (holds ts t 2) in
+      record {
+        formed = W;
+        why = none;
+        says = λ was. plan-says h W (inr ((on, to), inr (d, inl (λ x. none (x .0) (x .1), record { code = refl; arrives = refl; counts = refl; holds = refl }))));
+      }
+
+  no-test : {X : Type 0} → every (false ∷ []) ≡ true → X
+  no-test t = absurd (not-both (holds (false ∷ []) t 0) refl)
+
+  refuses-mean : (h : Past) (start dest s : ℕ) (r : Refusal) → every (refuseCase h start dest s r) ≡ true → Refuses h start dest s r
+  refuses-mean h start dest s BadMap t = no-test t
+  refuses-mean h start dest s BadBook t = no-test t
+  refuses-mean h start dest s OffMap t =
+      let ts = refuseCase h start dest s OffMap in
+      off-map h start dest s (holds ts t 0) (λ on. not-both (and-in (lt-ltb start (Y .places) (on .0)) (lt-ltb dest (Y .places) (on .1))) (not-true (ltb start (Y .places) && ltb dest (Y .places)) (holds ts t 1)))
+  refuses-mean h start dest s OffDay t = off-day h start dest s t
+  refuses-mean h start dest s NoPlan t = no-way h start dest s t
+  refuses-mean h start dest s ShortList t = no-test t
+  refuses-mean h start dest s FullBook t = no-test t
+  refuses-mean h start dest s NoTickets t = no-test t
+  refuses-mean h start dest s UnknownTicket t = no-test t
+  refuses-mean h start dest s BadSize t = no-test t
+  refuses-mean h start dest s BadCursor t = no-test t
+  refuses-mean h start dest s BadFrame t = no-test t
+
+  books-mean : (h : Past) (start dest s : ℕ) (plan : List Stay) (k a : ℕ) → every (bookCase h start dest s plan k a) ≡ true → Books h start dest s plan k a
+  unfolding pastB
+  books-mean h start dest s plan k a t =
+      let ts = bookCase h start dest s plan k a in
+      let past = holds ts t 0 in
+      let bs = bookTests G h start dest s plan in
+      let u = and-r (pastB G h) (every bs) past in
+      let W = past-formed G h (and-l (pastB G h) (every bs) past) in
+      let ask = holds bs u 0 in
+      let on = ltb-true start (Y .places) (holds (askTests G start dest s) ask 0) in
+      let to = ltb-true dest (Y .places) (holds (askTests G start dest s) ask 1) in
+      let d = leb-true s day (holds (askTests G start dest s) ask 2) in
+      let A = answered G h start dest s plan W to (holds bs u 1) in
+      let before = ltb-true (nextTicket h) ticketLimit (holds bs u 2) in
+      let fits = leb-true (length (rowsNow h) + length plan) rowLimit (holds bs u 3) in
+      let e = eqb-true (nextTicket h) k (holds ts t 1) in
+      let here : rowsNow h ≡ rowsOf (bookNow h) = sym (read h W) in
+      record {
+        answer = A;
+        formed = subst (λ (n : ℕ). WellFormed Y (rowsNow (booked h start dest s plan)) (n + 1)) e (past-formed G (booked h start dest s plan) past);
+        says =
+            book-says h W
+            (inr (
+              (on, to),
               inr (
-                before,
+                d,
                 inr (
-                  (plan, subst (λ (l : List Row). Permitted barn l start dest s plan) here (A .permitted)),
-                  (
-                    plan,
-                    subst (λ (l : List Row). Chosen barn l start dest s plan) here (A .chosen),
-                    inr (
-                      fits,
-                      record {
-                        code = refl;
-                        issues = sym e;
-                        arrives = sym (eqb-true (arrival plan) a (holds ts t 2));
-                        counts = refl;
-                        holds = ap (λ (l : List Row). bookOf (insertAll (runRows (nextTicket h) plan) l) (nextTicket h + 1)) here;
-                      },
+                  before,
+                  inr (
+                    (plan, A .permitted),
+                    (
+                      plan,
+                      A .chosen,
+                      inr (
+                        fits,
+                        record {
+                          code = refl;
+                          issues = sym e;
+                          arrives = sym (eqb-true (arrival plan) a (holds ts t 2));
+                          counts = refl;
+                          holds = ap (λ (l : List Row). bookOf (insertAll (runRows (nextTicket h) plan) l) (nextTicket h + 1)) here;
+                        },
+                      ),
                     ),
                   ),
                 ),
               ),
-            ),
-          ));
-    }
+            ));
+      }
 
-cancels-mean : (h : Past) (k n : ℕ) → every (cancelCase h k n) ≡ true → Cancels h k n
-unfolding pastB
-cancels-mean h k n t =
-    let ts = cancelCase h k n in
-    let W = past-formed h (holds ts t 0) in
-    let e = eqb-true (length (keep (ofTicket k) (rowsNow h))) n (holds ts t 1) in
-    let some : 0 < length (keep (ofTicket k) (rowsNow h)) = omega (arith, ltb-true 0 n (holds ts t 2)) in
-    let m = mem-keep (ofTicket k) _ (rowsNow h) (index-mem noRow (keep (ofTicket k) (rowsNow h)) 0 some) in
-    let here : rowsNow h ≡ rowsOf (bookNow h) = sym (read h W) in
-    record {
-      formed = past-formed (cancelled h k) (holds ts t 0);
-      says =
-          sound barn-good (good h W)
-          (inr (
-            subst (λ (l : List Row). Known l k) here (record { row = _; booked = m .0; has = eqb-true _ k (m .1) }),
-            record {
-              code = refl;
-              counts = sym e ∙ ap (λ (l : List Row). length (keep (ofTicket k) l)) here;
-              holds = ap (λ (l : List Row). bookOf (keep (otherTicket k) l) (nextTicket h)) here;
-            },
-          ));
-    }
+  cancels-mean : (h : Past) (k n : ℕ) → every (cancelCase h k n) ≡ true → Cancels h k n
+  unfolding pastB
+  cancels-mean h k n t =
+      let ts = cancelCase h k n in
+      let W = past-formed G h (holds ts t 0) in
+      let e = eqb-true (length (keep (ofTicket k) (rowsNow h))) n (holds ts t 1) in
+      let some : 0 < length (keep (ofTicket k) (rowsNow h)) = omega (arith, ltb-true 0 n (holds ts t 2)) in
+      let m = mem-keep (ofTicket k) _ (rowsNow h) (index-mem noRow (keep (ofTicket k) (rowsNow h)) 0 some) in
+      let here : rowsNow h ≡ rowsOf (bookNow h) = sym (read h W) in
+      record {
+        formed = past-formed G (cancelled h k) (holds ts t 0);
+        says =
+            sound (barn-good G) (good h W)
+            (inr (
+              subst (λ (l : List Row). Known l k) here (record { row = _; booked = m .0; has = eqb-true _ k (m .1) }),
+              record {
+                code = refl;
+                counts = sym e ∙ ap (λ (l : List Row). length (keep (ofTicket k) l)) here;
+                holds = ap (λ (l : List Row). bookOf (keep (otherTicket k) l) (nextTicket h)) here;
+              },
+            ));
+      }
 
-pages-mean : (h : Past) (size : ℕ) (k : Key) (rows : List Row) (more : Bool) → every (pageCase h size k rows more) ≡ true → Pages h size k rows more
-pages-mean h size k rows more t =
-    let ts = pageCase h size k rows more in
-    let W = past-formed h (holds ts t 0) in
-    let e = same-rows (pageRows size k (rowsNow h)) rows (holds ts t 1) in
-    let m = same-answer more (pageMore size k (rowsNow h)) (holds ts t 2) in
-    let fits : CursorFits barn k = record { place = ltb-true (k .place) 4 (holds ts t 5); entry = leb-true (k .entry) day (holds ts t 6); ticket = ltb-true (k .ticket) ticketLimit (holds ts t 7) } in
-    record {
-      formed = W;
-      shows = e;
-      says = λ was l.
-          page-says h W
-          (inr (
-            (leb-true 1 size (holds ts t 3), leb-true size pageLimit (holds ts t 4)),
-            inr (
-              fits,
+  pages-mean : (h : Past) (size : ℕ) (k : Key) (rows : List Row) (more : Bool) → every (pageCase h size k rows more) ≡ true → Pages h size k rows more
+  pages-mean h size k rows more t =
+      let ts = pageCase h size k rows more in
+      let W = past-formed G h (holds ts t 0) in
+      let e = same-rows (pageRows size k (rowsNow h)) rows (holds ts t 1) in
+      let m = same-answer more (pageMore size k (rowsNow h)) (holds ts t 2) in
+      let fits : CursorFits Y k = record { place = ltb-true (k .place) (Y .places) (holds ts t 5); entry = leb-true (k .entry) day (holds ts t 6); ticket = ltb-true (k .ticket) ticketLimit (holds ts t 7) } in
+      record {
+        formed = W;
+        shows = e;
+        says = λ was l.
+            page-says h W
+            (inr (
+              (leb-true 1 size (holds ts t 3), leb-true size pageLimit (holds ts t 4)),
               inr (
-                l,
-                record {
-                  code = refl;
-                  counts = ap (λ (x : List Row). length x) (sym e);
-                  says = m;
-                  hands = ap (λ (x : List Row). lastKey k x) (sym e);
-                  holds = ap (λ (x : List Row). written x was) (sym e);
-                },
+                fits,
+                inr (
+                  l,
+                  record {
+                    code = refl;
+                    counts = ap (λ (x : List Row). length x) (sym e);
+                    says = m;
+                    hands = ap (λ (x : List Row). lastKey k x) (sym e);
+                    holds = ap (λ (x : List Row). written x was) (sym e);
+                  },
+                ),
               ),
-            ),
-          ));
-    }
+            ));
+      }
 
-pub case-means : (c : Case) → caseB c ≡ true → Means c
-unfolding caseB
-case-means (plans h start dest s plan a) t = plans-mean h start dest s plan a t
-case-means (permits h start dest s plan a) t = permits-mean h start dest s plan a t
-case-means (refuses h start dest s r) t = refuses-mean h start dest s r t
-case-means (books h start dest s plan k a) t = books-mean h start dest s plan k a t
-case-means (cancels h k n) t = cancels-mean h k n t
-case-means (pages h size k rows more) t = pages-mean h size k rows more t
+  pub case-means : (c : Case) → caseB c ≡ true → Means c
+  unfolding caseB
+  case-means (plans h start dest s plan a) t = plans-mean h start dest s plan a t
+  case-means (permits h start dest s plan a) t = permits-mean h start dest s plan a t
+  case-means (refuses h start dest s r) t = refuses-mean h start dest s r t
+  case-means (books h start dest s plan k a) t = books-mean h start dest s plan k a t
+  case-means (cancels h k n) t = cancels-mean h k n t
+  case-means (pages h size k rows more) t = pages-mean h size k rows more t
+
+  -- ---- a table of cases
+
+  -- one test of all lines, which computes
+  unfoldable pub tableB : List Case → Bool
+  unfolding caseB pastB planB refusedB under lexB samePlan sameRows sameAnswer endIn leadsb scan leastEntry windowsBelow entriesB rivalB priorB beginsB trailB laterB chosenB closedB noneB freeB permittedB lessb covers load linked arrival
+  tableB cs = allB caseB cs
+
+  -- and every line of a table that stands it means what it says
+  pub table-means : (cs : List Case) → tableB cs ≡ true → (c : Case) → List·Memᴰ c cs → Means c
+  unfolding tableB
+  table-means cs t c m = case-means c (all-out caseB cs t c m)

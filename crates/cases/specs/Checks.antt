@@ -1,9 +1,9 @@
--- Tests put together: a list of tests that all hold, one test under another, and what each then says.
+-- Tests put together: a list of tests that all hold, a test of all members, one test under another, and what each then says.
 use Prim.Native.Nat.{ℕ, zero, suc}
-use mathlib.Core.Path.{_≡_, refl, sym, ap₂}
+use mathlib.Core.Path.{_≡_, refl, sym, ap₂, subst}
 use mathlib.Core.Logic.{⊎-elim}
 use mathlib.Core.Bool.{Bool, true, false, _&&_, _||_, not}
-use mathlib.Core.List.{List, [], _∷_}
+use mathlib.Core.List.{List, [], _∷_, List·Memᴰ, List·Memᴰ·not-nil, List·Memᴰ·cases-cons}
 use native.Mathlib.Omega.{arith}
 use lib.ListN.{getD}
 use lib.Dec.{eqb, leb, ltb}
@@ -15,15 +15,23 @@ use Rattle.rules.specs.Plan.{Stay}
 use Rattle.rules.specs.Chosen.{LexLe}
 
 -- all of them hold
-unfoldable pub every : List Bool → Bool
+abbrev pub every : List Bool → Bool
 every [] = true
 every (t ∷ ts) = t && every ts
 
 pub holds : (ts : List Bool) → every ts ≡ true → (i : ℕ) → getD ts i true ≡ true
-unfolding every
 holds [] e i = refl
 holds (t ∷ ts) e zero = and-l t (every ts) e
 holds (t ∷ ts) e (suc i) = holds ts (and-r t (every ts) e) i
+
+-- the test holds of all members
+abbrev pub allB : {A : Type 0} → (A → Bool) → List A → Bool
+allB f [] = true
+allB f (x ∷ xs) = f x && allB f xs
+
+pub all-out : {A : Type 0} (f : A → Bool) (xs : List A) → allB f xs ≡ true → (x : A) → List·Memᴰ x xs → f x ≡ true
+all-out f [] t x m = absurd (List·Memᴰ·not-nil m)
+all-out f (y ∷ xs) t x m = ⊎-elim (λ e. subst (λ z. f z ≡ true) (sym e) (and-l (f y) (allB f xs) t)) (λ n. all-out f xs (and-r (f y) (allB f xs) t) x n) (List·Memᴰ·cases-cons m)
 
 -- the second holds where the first does
 unfoldable pub under : Bool → Bool → Bool
@@ -58,7 +66,6 @@ lex-out a b c a′ b′ c′ t = ⊎-elim less same (or-out (ltb a a′) (eqb a 
 
 -- two plans are the same, stay by stay
 unfoldable pub samePlan : List Stay → List Stay → Bool
-unfolding every
 samePlan [] [] = true
 samePlan [] (y ∷ ys) = false
 samePlan (x ∷ xs) [] = false
@@ -79,7 +86,6 @@ same-plan (x ∷ xs) (y ∷ ys) t =
 
 -- two lists of rows are the same, row by row
 unfoldable pub sameRows : List Row → List Row → Bool
-unfolding every
 sameRows [] [] = true
 sameRows [] (y ∷ ys) = false
 sameRows (x ∷ xs) [] = false

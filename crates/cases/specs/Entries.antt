@@ -19,12 +19,11 @@ use Rattle.lanes.specs.Reach.{step-mono, begin, Enter, fifo, Before, came}
 use Rattle.cases.specs.Next.{mark, leastEntry, least-low, least-step}
 
 -- a test holds of each number below n
-unfoldable pub allBelow : ℕ → (ℕ → Bool) → Bool
+abbrev pub allBelow : ℕ → (ℕ → Bool) → Bool
 allBelow zero f = true
 allBelow (suc n) f = f n && allBelow n f
 
 pub below-out : (n : ℕ) (f : ℕ → Bool) → allBelow n f ≡ true → (i : ℕ) → i < n → f i ≡ true
-unfolding allBelow
 below-out zero f t i h = absurd (omega arith)
 below-out (suc n) f t i h =
     ⊎-elim (λ (k : i < n). below-out n f (and-r (f n) (allBelow n f) t) i k)
@@ -64,7 +63,7 @@ module _ (Y : Yard) (B : List Row) (start s : ℕ) (ws : List Span) (dist prior 
 
   -- the whole test
   unfoldable pub entriesB : Bool
-  unfolding sourceB settledB hadB allBelow
+  unfolding sourceB settledB hadB
   entriesB = allBelow (length ws) sourceB && (allBelow (length ws) (λ i. allBelow (length ws) (settledB i)) && allBelow (length ws) hadB)
 
   first-in : (w : Span) → w .place ≡ start → w .from ≤ s → s + Y .dur (w .place) ≤ w .to → firstB w ≡ true

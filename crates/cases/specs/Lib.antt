@@ -10,3 +10,4 @@ pub mod Barn
 pub mod Past
 pub mod Case
 pub mod Table
+pub mod Rings

@@ -1,16 +1,19 @@
--- The rules of a map as one test: each rule is tried for every place, link or pair of links.
-use Prim.Native.Nat.{ℕ, _<_}
-use mathlib.Core.Path.{_≡_, ap}
+-- The rules of a map as one test: each rule is tried for every place, link or pair of links. A barn is a map that stands the test.
+use Prim.Native.Nat.{ℕ, _-_, _<_}
+use mathlib.Core.Path.{_≡_, sym, ap, ap₂, subst₂}
 use mathlib.Core.Bool.{Bool, true, _&&_, not}
-use mathlib.Core.List.{List, [], _∷_}
-use lib.ListN.{length}
+use mathlib.Core.List.{List, [], _∷_, _++_}
+use lib.ListN.{length, replicate}
+use lib.Seq.{take-append-seam}
 use lib.Dec.{eqb, leb, ltb}
 use borrow.Author.Tests.{leb-true, ltb-true, eq-eqb, eqb-false, not-true}
 use Rattle.laws.specs.Tests.{not-both, and-in}
 use Rattle.rules.specs.declared.Place.{Place}
 use Rattle.rules.specs.declared.Link.{Link}
+use Rattle.rules.specs.declared.Map.{Map}
 use Rattle.rules.specs.Limits.{placeLimit, capacityLimit, durationLimit, linkLimit}
-use Rattle.rules.specs.Map.{placeAt, linkAt, MapRules}
+use Rattle.rules.specs.Map.{Yard, yardOf, zeroPlace, noLink, placeAt, linkAt, MapRules, placesOf, linksOf, mapYard, GoodMap}
+use Rattle.lanes.specs.Yards.{YardRules, yard-rules}
 use Rattle.cases.specs.Checks.{every, holds}
 use Rattle.cases.specs.Entries.{allBelow, below-out}
 
@@ -30,11 +33,10 @@ module _ (ps : List Place) (ls : List Link) where
       leb 1 (length ps) ∷ leb (length ps) placeLimit ∷ leb (length ls) linkLimit ∷ allBelow (length ps) (λ p. every (placeTests p))
       ∷ allBelow (length ls) (λ i. every (linkTests i)) ∷ allBelow (length ls) (λ j. allBelow j (apartB j)) ∷ []
 
-  unfoldable pub mapB : Bool
+  abbrev pub mapB : Bool
   mapB = every mapTests
 
   pub map-rules : mapB ≡ true → MapRules ps ls
-  unfolding mapB
   map-rules t =
       let place : (p : ℕ) → p < length ps → every (placeTests p) ≡ true = below-out (length ps) (λ p. every (placeTests p)) (holds mapTests t 3) in
       let link : (i : ℕ) → i < length ls → every (linkTests i) ≡ true = below-out (length ls) (λ i. every (linkTests i)) (holds mapTests t 4) in
@@ -54,3 +56,46 @@ module _ (ps : List Place) (ls : List Link) where
             let y = and-in (eq-eqb ((linkAt ls i) .from) ((linkAt ls j) .from) (ap (λ (l : Link). l .from) e)) (eq-eqb ((linkAt ls i) .to) ((linkAt ls j) .to) (ap (λ (l : Link). l .to) e)) in
             not-both y (not-true (eqb ((linkAt ls i) .from) ((linkAt ls j) .from) && eqb ((linkAt ls i) .to) ((linkAt ls j) .to)) x);
       }
+
+-- places, each with its capacity and its duration, and links
+abbrev pub place : ℕ → ℕ → Place
+place c d = record { capacity = c; duration = d }
+
+abbrev pub link : ℕ → ℕ → Link
+link p q = record { from = p; to = q }
+
+pub record Barn : Type 0 where
+  pub places : List Place
+  pub links : List Link
+  pub tested : mapB places links ≡ true
+
+module _ (G : Barn) where
+  abbrev pub yard : Yard
+  yard = yardOf (G .places) (G .links)
+
+  -- in array form
+  abbrev pub arrays : Map
+  arrays = record {
+    places = G .places ++ replicate (placeLimit - length (G .places)) zeroPlace;
+    links = G .links ++ replicate (linkLimit - length (G .links)) noLink;
+    «place_count» = length (G .places);
+    «link_count» = length (G .links);
+  }
+
+  rules : MapRules (G .places) (G .links)
+  rules = map-rules (G .places) (G .links) (G .tested)
+
+  pub barn-rules : YardRules yard
+  barn-rules = yard-rules rules
+
+  arrays-places : placesOf arrays ≡ G .places
+  arrays-places = take-append-seam (G .places) _
+
+  arrays-links : linksOf arrays ≡ G .links
+  arrays-links = take-append-seam (G .links) _
+
+  pub arrays-yard : mapYard arrays ≡ yard
+  arrays-yard = ap₂ yardOf arrays-places arrays-links
+
+  pub barn-good : GoodMap arrays
+  barn-good = record { places-fit = rules .few; links-fit = rules .few-links; rules = subst₂ MapRules (sym arrays-places) (sym arrays-links) rules }

@@ -1,5 +1,5 @@
 -- The least entry from one window, itself entered at e, into another, as a definition that computes: the seconds that both windows and the
--- duration allow are looked at in order, up to the first that no opposing crossing bars. It is a step, and no step is before it.
+-- duration allow are looked at in order, up to the first at which the crossing is not barred. It is a step, and no step is before it.
 use Prim.Native.Nat.{ℕ, zero, suc, _+_, _-_, _≤_, _<_, min, max}
 use mathlib.Core.Path.{_≡_, refl, subst}
 use mathlib.Core.Logic.{⊎-elim}
@@ -10,7 +10,7 @@ use Rattle.laws.specs.Order.{lt-or-ge}
 use Rattle.laws.specs.Tests.{not-both}
 use Rattle.rules.specs.declared.Row.{Row}
 use Rattle.rules.specs.Map.{Yard}
-use Rattle.rules.specs.Rows.{barred}
+use Rattle.rules.specs.RingLaws.{barredb, unbarred, unbarredb}
 use Rattle.rules.specs.Window.{Span, Step, Yields}
 
 -- a second above every second of the day
@@ -50,26 +50,26 @@ module _ (Y : Yard) (B : List Row) where
 
   unfoldable pub leastEntry : Span → Span → ℕ → ℕ
   unfolding from upto
-  leastEntry w v e = elim (Y .link (w .place) (v .place)) [ false ↦ mark | true ↦ scan (barred B (w .place) (v .place)) (suc (upto w v) - from w v e) (from w v e) ]
+  leastEntry w v e = elim (Y .link (w .place) (v .place)) [ false ↦ mark | true ↦ scan (barredb B (w .place) (v .place)) (suc (upto w v) - from w v e) (from w v e) ]
 
   pub least-low : (w v : Span) (e u : ℕ) → Step Y B w v e u → leastEntry w v e ≤ u
   unfolding leastEntry
   least-low w v e u k =
       let a = k .after in let b = k .before in let c = k .from in let d = k .fits in
-      rw (k .linked, leastEntry) (scan-low (barred B (w .place) (v .place)) _ _ u (omega arith) (omega arith) (k .clear))
+      rw (k .linked, leastEntry) (scan-low (barredb B (w .place) (v .place)) _ _ u (omega arith) (omega arith) (unbarredb B (w .place) (v .place) u (k .clear)))
 
   pub least-step : (w v : Span) (e : ℕ) → v .from + Y .dur (v .place) ≤ v .to → leastEntry w v e < mark → Step Y B w v e (leastEntry w v e)
   unfolding leastEntry
   least-step w v e l = go (Y .link (w .place) (v .place)) refl
     where
       go : (t : Bool) → Y .link (w .place) (v .place) ≡ t
-          → let x = elim t as (λ _. ℕ) [ false ↦ mark | true ↦ scan (barred B (w .place) (v .place)) (suc (upto w v) - from w v e) (from w v e) ] in x < mark → Step Y B w v e x
+          → let x = elim t as (λ _. ℕ) [ false ↦ mark | true ↦ scan (barredb B (w .place) (v .place)) (suc (upto w v) - from w v e) (from w v e) ] in x < mark → Step Y B w v e x
       go false q h = absurd (omega arith)
       go true q h =
-          let r = scan-at (barred B (w .place) (v .place)) (suc (upto w v) - from w v e) (from w v e) h in
+          let r = scan-at (barredb B (w .place) (v .place)) (suc (upto w v) - from w v e) (from w v e) h in
           let r0 = r .0 in
           let r1 = r .1 in
-          record { linked = q; after = omega arith; before = omega arith; from = omega arith; fits = omega arith; clear = r .2 }
+          record { linked = q; after = omega arith; before = omega arith; from = omega arith; fits = omega arith; clear = unbarred B (w .place) (v .place) _ (r .2) }
 
   -- the entry that a window yields, both ways
   pub least-yields : (w v : Span) (e : ℕ) → v .from + Y .dur (v .place) ≤ v .to → leastEntry w v e < mark → Yields Y B w v e (leastEntry w v e)

@@ -10,7 +10,8 @@ use borrow.Author.Tests.{eqb-true, leb-true, ltb-true, not-true}
 use Rattle.rules.specs.declared.Row.{Row}
 use Rattle.rules.specs.Limits.{day}
 use Rattle.rules.specs.Map.{Yard}
-use Rattle.rules.specs.Rows.{load, barred}
+use Rattle.rules.specs.Rows.{load}
+use Rattle.rules.specs.RingLaws.{barredb, unbarred}
 use Rattle.rules.specs.Plan.{Stay, stayAt, Permitted}
 use Rattle.rules.specs.Window.{Free}
 use Rattle.lanes.specs.Made.{alone, in-front}
@@ -38,7 +39,7 @@ module _ (Y : Yard) (B : List Row) (dest : ℕ) where
   abbrev stayTests : Stay → Stay → Bool → List Bool
   stayTests x y rest =
       ltb (x .place) (Y .places) ∷ leb (x .entry + Y .dur (x .place)) (x .exit) ∷ freeB (x .place) (x .entry) (x .exit) ∷ Y .link (x .place) (y .place)
-      ∷ eqb (x .exit) (y .entry) ∷ not (barred B (x .place) (y .place) (x .exit)) ∷ rest ∷ []
+      ∷ eqb (x .exit) (y .entry) ∷ not (barredb B (x .place) (y .place) (x .exit)) ∷ rest ∷ []
 
   unfoldable pub permittedB : List Stay → Bool
   permittedB [] = false
@@ -60,4 +61,4 @@ module _ (Y : Yard) (B : List Row) (dest : ℕ) where
       let e = eqb-true (x .exit) (y .entry) (holds ts t 4) in
       let P : Permitted Y B (y .place) dest (x .exit) (y ∷ ys) = subst (λ u. Permitted Y B (y .place) dest u (y ∷ ys)) (sym e) (permitted-is room (y ∷ ys) (holds ts t 6)) in
       in-front (x .place) (x .entry) P (ltb-true (x .place) (Y .places) (holds ts t 0)) (leb-true (x .entry + Y .dur (x .place)) (x .exit) (holds ts t 1)) (free-is (x .place) (x .entry) (x .exit) (holds ts t 2)) (holds ts t 3)
-      (not-true (barred B (x .place) (y .place) (x .exit)) (holds ts t 5))
+      (unbarred B (x .place) (y .place) (x .exit) (not-true (barredb B (x .place) (y .place) (x .exit)) (holds ts t 5)))

@@ -1,30 +1,23 @@
 -- The nine cases of the small barn as one table, and that it holds as a whole: one computed test of all lines, whose every line is proved to
 -- give what the line means.
 use Prim.Native.Nat.{ℕ}
-use mathlib.Core.Path.{_≡_, refl, sym, subst}
-use mathlib.Core.Logic.{⊎-elim}
-use mathlib.Core.Bool.{Bool, true, false, _&&_}
-use mathlib.Core.List.{List, [], _∷_, List·Memᴰ, List·Memᴰ·not-nil, List·Memᴰ·cases-cons}
+use mathlib.Core.Path.{_≡_, refl}
+use mathlib.Core.Bool.{true, false}
+use mathlib.Core.List.{List, [], _∷_, List·Memᴰ}
 use native.Mathlib.Omega.{arith}
-use Rattle.laws.specs.Tests.{and-l, and-r}
 use Rattle.rules.specs.declared.Refusal.the-variants.{OffMap, OffDay, NoPlan}
-use Rattle.rules.specs.Map.{linked}
-use Rattle.rules.specs.Rows.{row, Key, firstKey, lessb, covers, load, crosses, barred}
-use Rattle.rules.specs.Plan.{Stay, arrival}
-use Rattle.cases.specs.Checks.{every, under, lexB, samePlan, sameRows, sameAnswer}
-use Rattle.cases.specs.Edges.{endIn}
-use Rattle.cases.specs.Next.{scan, leastEntry}
-use Rattle.cases.specs.Listing.{windowsBelow}
-use Rattle.cases.specs.Entries.{allBelow, entriesB}
-use Rattle.cases.specs.Trail.{rivalB, priorB, beginsB, trailB, laterB, chosenB, closedB, noneB}
-use Rattle.cases.specs.Permits.{freeB, permittedB}
-use Rattle.cases.specs.Barn.{planB, refusedB}
+use Rattle.rules.specs.Rows.{row, Key, firstKey, lessb}
+use Rattle.cases.specs.Maps.{place, link, Barn}
 use Rattle.cases.specs.Past.{Past, empty, booked, cancelled, rowsNow, pastB}
-use Rattle.cases.specs.Case.{Case, plans, permits, refuses, books, cancels, pages, Refuses, Means, caseB, off-map, case-means}
+use Rattle.cases.specs.Case.{stay, Case, plans, permits, refuses, books, cancels, pages, Refuses, Means, off-map, tableB, table-means}
 
--- "Stays are written place:entry-exit."
-abbrev stay : ℕ → ℕ → ℕ → Stay
-stay p a b = record { place = p; entry = a; exit = b }
+-- "place 0 capacity 2 duration 10; 1, 2, 3 capacity 1, durations 20, 30, 10", with the links of the frames 020001, 020103, 020002, 020203, 020301, 020100
+abbrev pub barn : Barn
+barn = record {
+  places = place 2 10 ∷ place 1 20 ∷ place 1 30 ∷ place 1 10 ∷ [];
+  links = link 0 1 ∷ link 1 3 ∷ link 0 2 ∷ link 2 3 ∷ link 3 1 ∷ link 1 0 ∷ [];
+  tested = refl;
+}
 
 abbrev key : ℕ → ℕ → ℕ → Key
 key p a k = record { place = p; entry = a; ticket = k }
@@ -79,26 +72,17 @@ table =
     ∷ pages (cancelled both 1) 2 (key 0 0 2) (row 2 10 2 40 3 ∷ row 3 40 2 50 3 ∷ []) false
     ∷ []
 
-allCases : List Case → Bool
-allCases [] = true
-allCases (c ∷ cs) = caseB c && allCases cs
-
-table-test : allCases table ≡ true
-unfolding allCases caseB pastB planB refusedB every under lexB samePlan sameRows sameAnswer endIn scan leastEntry windowsBelow allBelow entriesB rivalB priorB beginsB trailB laterB chosenB closedB noneB freeB permittedB lessb covers load crosses barred linked arrival
+table-test : tableB barn table ≡ true
+unfolding tableB
 table-test = refl
 
-all-mean : (cs : List Case) → allCases cs ≡ true → (c : Case) → List·Memᴰ c cs → Means c
-unfolding allCases
-all-mean [] t c m = absurd (List·Memᴰ·not-nil m)
-all-mean (d ∷ cs) t c m = ⊎-elim (λ e. subst Means (sym e) (case-means d (and-l (caseB d) (allCases cs) t))) (λ n. all-mean cs (and-r (caseB d) (allCases cs) t) c n) (List·Memᴰ·cases-cons m)
-
 -- the table holds, as a whole
-pub table-holds : (c : Case) → List·Memᴰ c table → Means c
-table-holds = all-mean table table-test
+pub table-holds : (c : Case) → List·Memᴰ c table → Means barn c
+table-holds = table-means barn table table-test
 
 -- case 8 whatever the start, the second and the book's past
-pub destination-4 : (h : Past) → pastB h ≡ true → (start s : ℕ) → Refuses h start 4 s OffMap
-destination-4 h t start s = off-map h start 4 s t (λ on. omega (arith, on .1))
+pub destination-4 : (h : Past) → pastB barn h ≡ true → (start s : ℕ) → Refuses barn h start 4 s OffMap
+destination-4 h t start s = off-map barn h start 4 s t (λ on. omega (arith, on .1))
 
 -- the books as the rows that a page shows: place, entry, ticket, exit, next
 pub rows-one : rowsNow one ≡ row 0 0 1 10 1 ∷ row 1 10 1 30 3 ∷ row 3 30 1 40 3 ∷ []

@@ -1,66 +1,43 @@
--- A crossing among rows stands at an index.
-use Prim.Native.Nat.{ℕ, zero, suc, _<_}
-use mathlib.Core.Path.{_≡_, sym, ap, _∙_}
-use mathlib.Core.Logic.{_⊎_, inl, inr, ⊎-elim}
-use mathlib.Core.Bool.{true, false, _&&_}
-use mathlib.Core.List.{List, [], _∷_}
+-- Rows and crossings by index over the arrays.
+use Prim.Native.Nat.{ℕ, _<_}
+use mathlib.Core.Path.{_≡_, sym, ap, subst, _∙_}
+use mathlib.Core.List.{List, List·Memᴰ}
 use native.Mathlib.Omega.{arith}
-use lib.ListN.{length}
-use lib.Dec.{eqb}
-use borrow.Author.Tests.{eqb-true, eq-eqb}
-use Rattle.laws.specs.Tests.{true-or-false, and-in, and-l, and-r, or-out, or-l, or-r}
-use Rattle.laws.specs.Lists.{at}
+use Rattle.laws.specs.Lists.{at, mem-index, index-mem}
 use Rattle.rules.specs.declared.Row.{Row}
-use Rattle.rules.specs.Rows.{rowAt, crosses}
-use Rattle.flat.specs.Flat.{rowsIn, placeOf, exitOf, nextOf}
+use Rattle.rules.specs.Rows.{noRow, Crossing}
+use Rattle.flat.specs.Flat.{rowsIn, rowOf, placeOf, exitOf, nextOf}
 use Rattle.flat.specs.Laws.{rows-long, row-in}
 
--- row number `at` goes from p to q at t
-pub record CrossingAt (rows : List Row) (p q t : ℕ) : Type 0 where
-  pub at : ℕ
-  pub within : at < length rows
-  pub from : (rowAt rows at) .place ≡ p
-  pub to : (rowAt rows at) .next ≡ q
-  pub when : (rowAt rows at) .exit ≡ t
+-- row i goes from p to q at t
+pub record GoesAt (K X : List ℕ) (p q t i : ℕ) : Type 0 where
+  pub from : placeOf (at K i) ≡ p
+  pub to : nextOf (at X i) ≡ q
+  pub when : exitOf (at X i) ≡ t
 
-pub crosses-at : (rows : List Row) (p q t : ℕ) → crosses rows p q t ≡ true → CrossingAt rows p q t
-unfolding crosses
-crosses-at [] p q t h = let z : _≡_ {A = ℕ} 0 1 = cc in absurd (omega arith)
-crosses-at (r ∷ rows) p q t h = by (or-out (eqb (r .place) p && (eqb (r .next) q && eqb (r .exit) t)) (crosses rows p q t) h) (λ k. crosses-at rows p q t k)
-  where
-    by : ((eqb (r .place) p && (eqb (r .next) q && eqb (r .exit) t)) ≡ true) ⊎ (crosses rows p q t ≡ true) → (crosses rows p q t ≡ true → CrossingAt rows p q t) → CrossingAt (r ∷ rows) p q t
-    by (inl k) f =
-        let b = and-r (eqb (r .place) p) (eqb (r .next) q && eqb (r .exit) t) k in
-        record {
-          at = 0;
-          within = omega arith;
-          from = eqb-true (r .place) p (and-l (eqb (r .place) p) (eqb (r .next) q && eqb (r .exit) t) k);
-          to = eqb-true (r .next) q (and-l (eqb (r .next) q) (eqb (r .exit) t) b);
-          when = eqb-true (r .exit) t (and-r (eqb (r .next) q) (eqb (r .exit) t) b);
-        }
-    by (inr k) f = let x = f k in record { at = suc (x .at); within = omega (arith, x .within); from = x .from; to = x .to; when = x .when }
+module _ (K X : List ℕ) (n : ℕ) where
+  pub row-of : (i : ℕ) → i < n → List·Memᴰ (rowOf (at K i) (at X i)) (rowsIn K X n)
+  row-of i h = subst (λ (r : Row). List·Memᴰ r (rowsIn K X n)) (row-in K X n i h) (index-mem noRow (rowsIn K X n) i (omega (arith, rows-long K X n)))
 
-pub at-crosses : (rows : List Row) (p q t i : ℕ) → i < length rows → (rowAt rows i) .place ≡ p → (rowAt rows i) .next ≡ q → (rowAt rows i) .exit ≡ t → crosses rows p q t ≡ true
-unfolding crosses
-at-crosses [] p q t i h a b c = absurd (omega arith)
-at-crosses (r ∷ rows) p q t zero h a b c = or-l (crosses rows p q t) (and-in (eq-eqb (r .place) p a) (and-in (eq-eqb (r .next) q b) (eq-eqb (r .exit) t c)))
-at-crosses (r ∷ rows) p q t (suc i) h a b c = or-r (eqb (r .place) p && (eqb (r .next) q && eqb (r .exit) t)) (at-crosses rows p q t i (omega arith) a b c)
+  pub index-of : {r : Row} → List·Memᴰ r (rowsIn K X n) → (i : ℕ) × (i < n) × (rowOf (at K i) (at X i) ≡ r)
+  index-of m =
+      let x = mem-index noRow m in
+      let h : x .0 < n = omega (arith, x .1, rows-long K X n) in
+      (x .0, h, sym (row-in K X n (x .0) h) ∙ x .2)
 
--- no row crosses: no index does
-pub none-crosses : (rows : List Row) (p q t : ℕ) → (CrossingAt rows p q t → ⊥) → crosses rows p q t ≡ false
-none-crosses rows p q t f = ⊎-elim (λ h. absurd (f (crosses-at rows p q t h))) (λ h. h) (true-or-false (crosses rows p q t))
+  module _ {p q t : ℕ} where
+    pub goes-crossing : (p ≡ q → ⊥) → (i : ℕ) → i < n → GoesAt K X p q t i → Crossing (rowsIn K X n) p q t
+    goes-crossing ne i h g = record {
+      row = rowOf (at K i) (at X i);
+      booked = row-of i h;
+      onward = λ e. ne (sym (g .from) ∙ sym e ∙ g .to);
+      from = g .from;
+      to = g .to;
+      at = g .when;
+    }
 
--- the same over arrays
-module _ (K X : List ℕ) (count p q t : ℕ) where
-  pub array-crosses : (i : ℕ) → i < count → placeOf (at K i) ≡ p → nextOf (at X i) ≡ q → exitOf (at X i) ≡ t → crosses (rowsIn K X count) p q t ≡ true
-  array-crosses i h a b c =
-      let e = row-in K X count i h in
-      at-crosses (rowsIn K X count) p q t i (rw (rows-long K X count) h)
-      (ap (λ (r : Row). r .place) e ∙ a) (ap (λ (r : Row). r .next) e ∙ b) (ap (λ (r : Row). r .exit) e ∙ c)
-
-  pub array-clear : ((i : ℕ) → i < count → placeOf (at K i) ≡ p → nextOf (at X i) ≡ q → exitOf (at X i) ≡ t → ⊥) → crosses (rowsIn K X count) p q t ≡ false
-  array-clear f =
-      none-crosses (rowsIn K X count) p q t (λ x.
-      let h : x .at < count = rw (rows-long K X count) at (x .within) in
-      let e = row-in K X count (x .at) h in
-      f (x .at) h (ap (λ (r : Row). r .place) (sym e) ∙ x .from) (ap (λ (r : Row). r .next) (sym e) ∙ x .to) (ap (λ (r : Row). r .exit) (sym e) ∙ x .when))
+    pub crossing-goes : Crossing (rowsIn K X n) p q t → (i : ℕ) × (i < n) × GoesAt K X p q t i
+    crossing-goes c =
+        let x = index-of (c .booked) in
+        let e = x .2 in
+        (x .0, x .1, record { from = ap (λ (r : Row). r .place) e ∙ c .from; to = ap (λ (r : Row). r .next) e ∙ c .to; when = ap (λ (r : Row). r .exit) e ∙ c .at })

@@ -10,7 +10,7 @@ use Rattle.laws.specs.Tests.{true-or-false}
 use Rattle.rules.specs.declared.Row.{Row}
 use Rattle.rules.specs.Limits.{day}
 use Rattle.rules.specs.Map.{Yard}
-use Rattle.rules.specs.Rows.{covers, load, barred}
+use Rattle.rules.specs.Rows.{covers, load, Barred}
 use Rattle.rules.specs.Plan.{Stay, stayAt, held, Permitted}
 use Rattle.rules.specs.Window.{Free}
 use Rattle.lanes.specs.Stays.{covers-out, bit-true, bit-false}
@@ -36,7 +36,7 @@ module _ {Y : Yard} {B : List Row} {dest : ℕ} where
 
   -- a plan from q at u becomes one from p at t by a stay in front
   pub in-front : {q u : ℕ} {xs : List Stay} (p t : ℕ) → Permitted Y B q dest u xs → p < Y .places → t + Y .dur p ≤ u → Free Y B p t u
-      → Y .link p q ≡ true → barred B p q u ≡ false → Permitted Y B p dest t (record { place = p; entry = t; exit = u } ∷ xs)
+      → Y .link p q ≡ true → (Barred B p q u → ⊥) → Permitted Y B p dest t (record { place = p; entry = t; exit = u } ∷ xs)
   unfolding held
   in-front {q} {u} {xs} p t P m l f k c = record {
     run = record {
@@ -74,7 +74,7 @@ module _ {Y : Yard} {B : List Row} {dest : ℕ} where
       lasts zero h = l
       lasts (suc i) h = P .run .lasts i (omega arith)
 
-      exchange : (i : ℕ) → suc i < length (x ∷ xs) → barred B ((stayAt (x ∷ xs) i) .place) ((stayAt (x ∷ xs) (suc i)) .place) ((stayAt (x ∷ xs) i) .exit) ≡ false
+      exchange : (i : ℕ) → suc i < length (x ∷ xs) → Barred B ((stayAt (x ∷ xs) i) .place) ((stayAt (x ∷ xs) (suc i)) .place) ((stayAt (x ∷ xs) i) .exit) → ⊥
       exchange zero h = rw (P .first-place) c
       exchange (suc i) h = P .exchange i (omega arith)
 

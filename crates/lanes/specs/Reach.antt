@@ -2,7 +2,7 @@
 use Prim.Native.Nat.{ℕ, zero, suc, _+_, _≤_, _<_}
 use mathlib.Core.Path.{_≡_, refl, sym}
 use mathlib.Core.Logic.{_⊎_, inl, inr, ⊎-elim, Dec·and}
-use mathlib.Core.Bool.{true, false, Bool-discrete}
+use mathlib.Core.Bool.{true, Bool-discrete}
 use mathlib.Core.List.{List}
 use native.Mathlib.Omega.{arith}
 use native.Mathlib.Decide.{decLe, map-dec}
@@ -11,7 +11,8 @@ use Rattle.laws.specs.Order.{Least, NoneIn, least, lt-or-ge}
 use Rattle.rules.specs.declared.Row.{Row}
 use Rattle.rules.specs.Limits.{day}
 use Rattle.rules.specs.Map.{Yard}
-use Rattle.rules.specs.Rows.{barred}
+use Rattle.rules.specs.Rows.{Barred}
+use Rattle.rules.specs.RingLaws.{unbarred, unbarredb}
 use Rattle.rules.specs.Plan.{Stay, stayAt, Permitted}
 use Rattle.rules.specs.Window.{Free, Window, Span, Step}
 use Rattle.lanes.specs.Stays.{stay-safe}
@@ -27,7 +28,7 @@ module _ (Y : Yard) (B : List Row) where
       map-dec
       (λ x. record { linked = x .0; after = x .1 .0; before = x .1 .1 .0; from = x .1 .1 .1 .0; fits = x .1 .1 .1 .1 .0; clear = x .1 .1 .1 .1 .1 })
       (λ k. (k .linked, (k .after, (k .before, (k .from, (k .fits, k .clear))))))
-      (Dec·and (Bool-discrete _ _) (Dec·and (decLe _ _) (Dec·and (decLe _ _) (Dec·and (decLe _ _) (Dec·and (decLe _ _) (Bool-discrete _ _))))))
+      (Dec·and (Bool-discrete _ _) (Dec·and (decLe _ _) (Dec·and (decLe _ _) (Dec·and (decLe _ _) (Dec·and (decLe _ _) (map-dec (unbarred B _ _ _) (unbarredb B _ _ _) (Bool-discrete _ _)))))))
 
   -- the seconds that w, entered at e, allows into v: the least of them, or none
   pub steps : (w v : Span) (e : ℕ) → Least (Step Y B w v e) 0 (suc (w .to)) ⊎ NoneIn (Step Y B w v e) 0 (suc (w .to))
@@ -70,7 +71,7 @@ module _ (Y : Yard) (B : List Row) (start s : ℕ) where
   -- a wagon that begins at `start` at second s can enter p at t, all its stays before that one done as a permitted plan does them
   pub data Reach : ℕ → ℕ → Type 0 where
     begin : Reach start s
-    go : {p t : ℕ} (q u : ℕ) → Reach p t → t + Y .dur p ≤ u → u ≤ day → Free Y B p t u → Y .link p q ≡ true → barred B p q u ≡ false → Reach q u
+    go : {p t : ℕ} (q u : ℕ) → Reach p t → t + Y .dur p ≤ u → u ≤ day → Free Y B p t u → Y .link p q ≡ true → (Barred B p q u → ⊥) → Reach q u
 
   -- each stay of a permitted plan is entered at a reached second
   pub plan-reach : {dest : ℕ} {plan : List Stay} → Permitted Y B start dest s plan → (i : ℕ) → i < length plan → Reach ((stayAt plan i) .place) ((stayAt plan i) .entry)

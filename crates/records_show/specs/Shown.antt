@@ -24,11 +24,14 @@ use Rattle.rules.specs.GateLaws.{past, passed}
 use Rattle.rules.specs.Answer.{Planning, PlanRefused, PlanAnswers, PlanRecords, plannedNumber, plannedArrival, plannedCount}
 use Rattle.rules.specs.Answer.{PagingIs, PageRefused, PageRecords, pagedNumber, pagedCount, pagedMore, over}
 use Rattle.keeping.specs.Books.{rows-of-book, good-book}
-use Rattle.cases.specs.Barn.{barn, barnMap, barn-good}
+use Rattle.cases.specs.Maps.{yard, arrays, barn-good}
 use Rattle.cases.specs.Past.{rowsNow, bookNow}
 use Rattle.cases.specs.Case.{Plans}
 use Rattle.cases.specs.Case.Case.{plans}
-use Rattle.cases.specs.Table.{both, table, table-holds, rows-both}
+use Rattle.cases.specs.Table.{barn, both, table, table-holds, rows-both}
+
+abbrev pub barnMap : Map
+barnMap = arrays barn
 
 -- eight records before the call, and after a plan and a page that fit
 abbrev pub marks : List Row
@@ -70,7 +73,7 @@ whole-over M P rows n h k e f =
 abbrev way : List Stay
 way = record { place = 0; entry = 10; exit = 30 } ∷ record { place = 1; entry = 30; exit = 50 } ∷ record { place = 3; entry = 50; exit = 60 } ∷ []
 
-way-planned : Plans both 0 3 10 way 60
+way-planned : Plans barn both 0 3 10 way 60
 way-planned = table-holds (plans both 0 3 10 way 60) (index-mem (plans both 0 3 10 way 60) table 5 (omega arith))
 
 good-both : GoodBook (mapYard barnMap) bothBook
@@ -82,8 +85,8 @@ PlanLeft was out r plan = Unless (length plan ≤ length was) (PlanRefused 6 was
 plan-left : {was out : List Row} {r : Planned} → PlanRecords barnMap bothBook 0 3 10 was out r → PlanLeft was out r way
 plan-left {was} {out} {r} h =
     let A = way-planned .answer in
-    let a : PlanAnswers (length was) (over was) barn (rowsNow both) 0 3 10 was out r =
-    subst (λ (rows : List Row). PlanAnswers (length was) (over was) barn rows 0 3 10 was out r) (rows-of-book bothRows 3 ∙ sym rows-both) (passed barn-good good-both h) in
+    let a : PlanAnswers (length was) (over was) (yard barn) (rowsNow both) 0 3 10 was out r =
+    subst (λ (rows : List Row). PlanAnswers (length was) (over was) (yard barn) rows 0 3 10 was out r) (rows-of-book bothRows 3 ∙ sym rows-both) (passed (barn-good barn) good-both h) in
     let x = past (way, A .permitted) (past (omega arith) (past (omega arith, omega arith) a)) in
     subst (PlanLeft was out r) (A .only (x .0) (x .1)) (x .2)
 
@@ -126,7 +129,7 @@ plan-shown m b was {n} {rows} {a} em eb ew k h =
 page-left : {was out : List Row} {r : Paged} → PageRecords barnMap bothBook 2 firstKey was out r
     → Unless (2 ≤ length was) (PageRefused 6 was out r) (PagingIs 0 2 true (record { place = 0; entry = 0; ticket = 2 }) (over was (row 0 0 1 10 1 ∷ row 0 0 2 10 2 ∷ [])) out r)
 unfolding lessb
-page-left {was} {out} {r} h = past (record { place = omega arith; entry = omega arith; ticket = omega arith }) (past (omega arith, omega arith) (passed barn-good good-both h))
+page-left {was} {out} {r} h = past (record { place = omega arith; entry = omega arith; ticket = omega arith }) (past (omega arith, omega arith) (passed (barn-good barn) good-both h))
 
 pub record PageOn (n : ℕ) (rows : List Row) (a : Paged) : Type 0 where
   pub short-rows : n < 2 → rows ≡ marks

@@ -14,8 +14,7 @@ ghost use lib.ListN.{take, drop};
 ghost use Rattle.laws.specs.Tests.{Decides};
 ghost use Rattle.rules.specs.Rows.{cursorKey};
 ghost use Rattle.rules.specs.Answer.{PlanRecords, PageRecords};
-ghost use Rattle.cases.specs.Barn.{barnMap};
-ghost use Rattle.records_show.specs.Shown.{marks, planned, paged, bothBook, PlanOn, PageOn};
+ghost use Rattle.records_show.specs.Shown.{barnMap, marks, planned, paged, bothBook, PlanOn, PageOn};
 
 struct PlanShown {
     rows: [Row; 8],

@@ -1,7 +1,7 @@
 -- The book, and when it is well formed.
 use Prim.Native.Nat.{ℕ, _-_, _≤_, _<_}
 use mathlib.Core.Path.{_≡_}
-use mathlib.Core.Bool.{Bool, false, not}
+use mathlib.Core.Bool.{Bool, not}
 use mathlib.Core.List.{List, _++_, List·Memᴰ}
 use lib.ListN.{length, take, replicate}
 use lib.Dec.{eqb}
@@ -9,7 +9,7 @@ use Rattle.rules.specs.declared.Row.{Row}
 use Rattle.rules.specs.declared.Book.{Book}
 use Rattle.rules.specs.Limits.{day, rowLimit, ticketLimit}
 use Rattle.rules.specs.Map.{Yard}
-use Rattle.rules.specs.Rows.{noRow, rowAt, Rising, load, barred}
+use Rattle.rules.specs.Rows.{noRow, rowAt, Rising, load, Barred}
 use Rattle.rules.specs.Plan.{Stay, Plan, runRows}
 
 -- "A row's ranges are: place and next on the map, entry and exit to 86,400, ticket at least 1 and below the next number."
@@ -28,9 +28,9 @@ pub record Whole (Y : Yard) (rows : List Row) (ticket : ℕ) : Type 0 where
   pub booked : (r : Row) → List·Memᴰ r (runRows ticket plan) → List·Memᴰ r rows
   pub only : (r : Row) → List·Memᴰ r rows → r .ticket ≡ ticket → List·Memᴰ r (runRows ticket plan)
 
--- no row that goes on is barred among these rows
+-- "So too in a well-formed book": no row that goes on is barred among these rows
 abbrev pub Unbarred : List Row → Type 0
-Unbarred rows = (r : Row) → List·Memᴰ r rows → (r .next ≡ r .place → ⊥) → barred rows (r .place) (r .next) (r .exit) ≡ false
+Unbarred rows = (r : Row) → List·Memᴰ r rows → (r .next ≡ r .place → ⊥) → Barred rows (r .place) (r .next) (r .exit) → ⊥
 
 pub record WellFormed (Y : Yard) (rows : List Row) (next-ticket : ℕ) : Type 0 where
   -- "A book holds at most 1,024 rows in strictly rising key order, and the next ticket number, 1 to 1,000,000."

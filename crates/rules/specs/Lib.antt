@@ -2,6 +2,7 @@ pub mod Limits
 pub mod Map
 pub mod Rows
 pub mod RowLaws
+pub mod RingLaws
 pub mod Plan
 pub mod Book
 pub mod Page

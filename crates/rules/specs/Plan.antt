@@ -1,13 +1,13 @@
 -- A plan, and when it is permitted beside a book.
 use Prim.Native.Nat.{ℕ, suc, _+_, _≤_, _<_}
 use mathlib.Core.Path.{_≡_}
-use mathlib.Core.Bool.{true, false}
+use mathlib.Core.Bool.{true}
 use mathlib.Core.List.{List, [], _∷_}
 use lib.ListN.{length, getD}
 use Rattle.rules.specs.declared.Row.{Row}
 use Rattle.rules.specs.Limits.{day}
 use Rattle.rules.specs.Map.{Yard}
-use Rattle.rules.specs.Rows.{row, covers, bit, load, barred}
+use Rattle.rules.specs.Rows.{row, covers, bit, load, Barred}
 
 pub record Stay : Type 0 where
   pub place : ℕ
@@ -53,8 +53,8 @@ pub record Permitted (Y : Yard) (rows : List Row) (start dest s : ℕ) (plan : L
   pub last-place : (i : ℕ) → suc i ≡ length plan → (stayAt plan i) .place ≡ dest
   -- "load: at each second each place holds at most its capacity, booked rows and the plan's stays counted together"
   pub room : (p t : ℕ) → p < Y .places → load rows p t + held plan p t ≤ Y .cap p
-  -- "exchange: where the plan goes from p to q at second t, no booked run goes from q to p at t"
-  pub exchange : (i : ℕ) → suc i < length plan → barred rows ((stayAt plan i) .place) ((stayAt plan (suc i)) .place) ((stayAt plan i) .exit) ≡ false
+  -- "exchange", which "reads the wider rule": where the plan goes from p to q at second t, that crossing is not barred
+  pub exchange : (i : ℕ) → suc i < length plan → Barred rows ((stayAt plan i) .place) ((stayAt plan (suc i)) .place) ((stayAt plan i) .exit) → ⊥
 
 -- "A row holds place, entry, ticket, exit and next place. On a run's last row, next is the row's own place"
 abbrev pub stayRow : ℕ → Stay → ℕ → Row

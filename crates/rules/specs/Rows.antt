@@ -1,8 +1,8 @@
 -- Rows: keys and their order, the load of a place, crossings and what bars them.
-use Prim.Native.Nat.{ℕ, _+_, _<_}
+use Prim.Native.Nat.{ℕ, suc, _+_, _-_, _<_}
 use mathlib.Core.Path.{_≡_}
-use mathlib.Core.Bool.{Bool, true, false, _&&_, _||_}
-use mathlib.Core.List.{List, [], _∷_}
+use mathlib.Core.Bool.{Bool, true, false, _&&_}
+use mathlib.Core.List.{List, [], _∷_, List·Memᴰ}
 use lib.ListN.{length, getD}
 use lib.Dec.{eqb, leb, ltb}
 use Rattle.rules.specs.declared.Row.{Row}
@@ -66,14 +66,30 @@ unfoldable pub load : List Row → ℕ → ℕ → ℕ
 load [] p t = 0
 load (r ∷ rows) p t = bit (covers (r .place) (r .entry) (r .exit) p t) + load rows p t
 
--- a booked run goes from p to q at second t (p and q different)
-unfoldable pub crosses : List Row → ℕ → ℕ → ℕ → Bool
-crosses [] p q t = false
-crosses (r ∷ rows) p q t = (eqb (r .place) p && (eqb (r .next) q && eqb (r .exit) t)) || crosses rows p q t
+-- a booked crossing from p to q at second t: a row whose next is not its own place, at its exit
+pub record Crossing (rows : List Row) (p q t : ℕ) : Type 0 where
+  pub row : Row
+  pub booked : List·Memᴰ row rows
+  pub onward : row .next ≡ row .place → ⊥
+  pub from : row .place ≡ p
+  pub to : row .next ≡ q
+  pub at : row .exit ≡ t
 
--- "where the plan goes from p to q at second t, no booked run goes from q to p at t": the crossing from p to q at t is barred by one against it
-unfoldable pub barred : List Row → ℕ → ℕ → ℕ → Bool
-barred rows p q t = crosses rows q p t
+-- booked crossings at t lead from p to q in one or more steps
+pub data Leads (rows : List Row) (t : ℕ) : ℕ → ℕ → Type 0 where
+  one : {p q : ℕ} → Crossing rows p q t → Leads rows t p q
+  via : {p x q : ℕ} → Crossing rows p x t → Leads rows t x q → Leads rows t p q
+
+-- "a crossing at second t is barred if, together with booked crossings at t, it closes a ring of two or more places":
+-- the crossing from p to q, where booked ones lead from q to p
+abbrev pub Barred : List Row → ℕ → ℕ → ℕ → Type 0
+Barred rows p q t = Leads rows t q p
+
+-- a ring among the rows: a closed walk over places, of any length, each left for the next by a booked crossing at t
+pub record Ring (rows : List Row) (t : ℕ) (walk : List ℕ) : Type 0 where
+  pub some : 1 < length walk
+  pub steps : (i : ℕ) → suc i < length walk → Crossing rows (getD walk i 0) (getD walk (suc i) 0) t
+  pub closed : getD walk (length walk - 1) 0 ≡ getD walk 0 0
 
 -- the rows that a test keeps, in their order
 abbrev pub choose : Bool → Row → List Row → List Row

@@ -1,13 +1,13 @@
 -- Free windows and their earliest entries.
 use Prim.Native.Nat.{ℕ, suc, _+_, _≤_, _<_}
 use mathlib.Core.Path.{_≡_}
-use mathlib.Core.Bool.{true, false}
+use mathlib.Core.Bool.{true}
 use mathlib.Core.List.{List}
 use lib.ListN.{length}
 use Rattle.rules.specs.declared.Row.{Row}
 use Rattle.rules.specs.Limits.{day}
 use Rattle.rules.specs.Map.{Yard}
-use Rattle.rules.specs.Rows.{load, barred}
+use Rattle.rules.specs.Rows.{load, Barred}
 use Rattle.rules.specs.Plan.{Stay, stayAt, Permitted}
 
 -- every second of a to b-1 has a booked load below capacity
@@ -52,14 +52,14 @@ pub record Entries (Y : Yard) (rows : List Row) (start s n : ℕ) (win : ℕ →
   pub after : (i t : ℕ) → i < n → b < label i → Enters Y rows start s (win i) t → b < t
 
 -- a wagon that entered window w at e may go on into window v at u:
--- "out of those that both windows and the duration allow", "not barred by an opposing crossing"
+-- "out of those that both windows and the duration allow", "not barred"
 pub record Step (Y : Yard) (rows : List Row) (w v : Span) (e u : ℕ) : Type 0 where
   pub linked : Y .link (w .place) (v .place) ≡ true
   pub after : e + Y .dur (w .place) ≤ u
   pub before : u ≤ w .to
   pub from : v .from ≤ u
   pub fits : u + Y .dur (v .place) ≤ v .to
-  pub clear : barred rows (w .place) (v .place) u ≡ false
+  pub clear : Barred rows (w .place) (v .place) u → ⊥
 
 -- "From a window, itself entered at its earliest entry, into another, the entry is the least second .."
 pub record Yields (Y : Yard) (rows : List Row) (w v : Span) (e u : ℕ) : Type 0 where

@@ -2,21 +2,19 @@
 use Prim.Native.Nat.{ℕ, _+_, _-_, _≤_, _<_, min, max}
 use mathlib.Core.Path.{_≡_, subst}
 use mathlib.Core.Logic.{⊎-elim}
-use mathlib.Core.Bool.{true, false}
 use mathlib.Core.List.{List}
 use native.Mathlib.Omega.{arith}
 use Rattle.laws.specs.Order.{lt-or-ge}
-use Rattle.laws.specs.Tests.{not-both}
 use Rattle.rules.specs.declared.Row.{Row}
-use Rattle.rules.specs.Rows.{barred}
+use Rattle.rules.specs.Rows.{Barred}
 
 -- the least second of lo to hi at which the crossing from p to q is not barred
 pub record FirstClear (rows : List Row) (q p lo hi r : ℕ) : Type 0 where
   pub top : r ≤ 86401
   pub from : r < 86401 → lo ≤ r
   pub to : r < 86401 → r ≤ hi
-  pub clear : r < 86401 → barred rows p q r ≡ false
-  pub low : (u : ℕ) → lo ≤ u → u ≤ hi → barred rows p q u ≡ false → r ≤ u
+  pub clear : r < 86401 → Barred rows p q r → ⊥
+  pub low : (u : ℕ) → lo ≤ u → u ≤ hi → (Barred rows p q u → ⊥) → r ≤ u
 
 pub first-clear-same : {rows : List Row} {q p lo hi r r′ : ℕ} → hi ≤ 86400 → FirstClear rows q p lo hi r → FirstClear rows q p lo hi r′ → r ≡ r′
 first-clear-same {r = r} {r′ = r′} h a b =
@@ -30,35 +28,35 @@ first-clear-same {r = r} {r′ = r′} h a b =
 
 -- ---- the loop over seconds: each from lo to t - 1 is barred
 
-pub record Barred (rows : List Row) (q p lo t : ℕ) : Type 0 where
+pub record Passed (rows : List Row) (q p lo t : ℕ) : Type 0 where
   pub from : lo ≤ t
-  pub all : (u : ℕ) → lo ≤ u → u < t → barred rows p q u ≡ true
+  pub all : (u : ℕ) → lo ≤ u → u < t → Barred rows p q u
 
-pub barred-start : (rows : List Row) (q p lo : ℕ) → Barred rows q p lo lo
-barred-start rows q p lo = record { from = omega arith; all = λ u a b. absurd (omega arith) }
+pub passed-none : (rows : List Row) (q p lo : ℕ) → Passed rows q p lo lo
+passed-none rows q p lo = record { from = omega arith; all = λ u a b. absurd (omega arith) }
 
-pub barred-next : {rows : List Row} {q p lo t : ℕ} → Barred rows q p lo t → barred rows p q t ≡ true → Barred rows q p lo (t + 1)
-barred-next {rows} {q} {p} {lo} {t} B h = record {
+pub passed-more : {rows : List Row} {q p lo t : ℕ} → Passed rows q p lo t → Barred rows p q t → Passed rows q p lo (t + 1)
+passed-more {rows} {q} {p} {lo} {t} B h = record {
   from = omega (arith, B .from);
-  all = λ u a b. ⊎-elim (λ (c : u < t). B .all u a c) (λ (c : t ≤ u). let e : t ≡ u = omega arith in subst (λ x. barred rows p q x ≡ true) e h) (lt-or-ge u t);
+  all = λ u a b. ⊎-elim (λ (c : u < t). B .all u a c) (λ (c : t ≤ u). let e : t ≡ u = omega arith in subst (Barred rows p q) e h) (lt-or-ge u t);
 }
 
-pub barred-end : {rows : List Row} {q p lo hi t : ℕ} → Barred rows q p lo t → hi < t → FirstClear rows q p lo hi 86401
-barred-end B h = record {
+pub passed-all : {rows : List Row} {q p lo hi t : ℕ} → Passed rows q p lo t → hi < t → FirstClear rows q p lo hi 86401
+passed-all B h = record {
   top = omega arith;
   from = λ k. absurd (omega arith);
   to = λ k. absurd (omega arith);
   clear = λ k. absurd (omega arith);
-  low = λ u a b c. absurd (not-both (B .all u a (omega arith)) c);
+  low = λ u a b c. absurd (c (B .all u a (omega arith)));
 }
 
-pub barred-found : {rows : List Row} {q p lo hi t : ℕ} → hi ≤ 86400 → Barred rows q p lo t → t ≤ hi → barred rows p q t ≡ false → FirstClear rows q p lo hi t
-barred-found {t = t} h B k c = record {
+pub passed-to : {rows : List Row} {q p lo hi t : ℕ} → hi ≤ 86400 → Passed rows q p lo t → t ≤ hi → (Barred rows p q t → ⊥) → FirstClear rows q p lo hi t
+passed-to {t = t} h B k c = record {
   top = omega arith;
   from = λ _. B .from;
   to = λ _. k;
   clear = λ _. c;
-  low = λ u a b d. ⊎-elim (λ (e : u < t). absurd (not-both (B .all u a e) d)) (λ (e : t ≤ u). e) (lt-or-ge u t);
+  low = λ u a b d. ⊎-elim (λ (e : u < t). absurd (d (B .all u a e))) (λ (e : t ≤ u). e) (lt-or-ge u t);
 }
 
 -- ---- the entry into a window from .. to of duration d, by who may leave from `soonest` to `leave`
@@ -68,7 +66,7 @@ pub record Allowed (rows : List Row) (q p soonest leave d from to u : ℕ) : Typ
   pub left : u ≤ leave
   pub begun : from ≤ u
   pub fits : u + d ≤ to
-  pub clear : barred rows p q u ≡ false
+  pub clear : Barred rows p q u → ⊥
 
 pub record IsEntry (rows : List Row) (q p soonest leave d from to r : ℕ) : Type 0 where
   pub top : r ≤ 86401

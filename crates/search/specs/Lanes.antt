@@ -17,8 +17,8 @@ use Rattle.lanes.specs.Nodes.{Windows, mono, later}
 use Rattle.flat.specs.Flat.{placesIn, linksIn, yardIn, Of, Chained, rowsIn, spanAt, Grouped}
 use Rattle.flat.specs.Laws.{places-long, place-in, links-long, link-in, yard-of}
 use Rattle.flat.specs.Links.{group-end}
-use Rattle.lookup.specs.Crossings.{ByPlace}
-use Rattle.lookup.specs.Booked.{Booked, booked-by-place}
+use Rattle.lookup.specs.Crossings.{Kept}
+use Rattle.lookup.specs.Booked.{Booked, booked-kept}
 use Rattle.search.specs.Offers.{Row1}
 use Rattle.search.specs.Relax.{Ground, Runs, nextBy}
 
@@ -92,6 +92,6 @@ module _ {C D F T H N : List ℕ} {n k : ℕ} {rows : List Row} {c : ℕ} {P S E
   pub lanes-later : (w v e : ℕ) → w < m → e < 86401 → e < nextBy Y rows P S E w v e
   lanes-later = later Y rows m (spanAt P S E) (L .windows) (yard .long)
 
--- crossings may be looked up by place in the arrays that hold the rows
-pub lanes-by-place : {C D F T H L : List ℕ} {n k : ℕ} {K X : List ℕ} {c : ℕ} {P S E I : List ℕ} {m : ℕ} → Lanes C D F T H L n k (rowsIn K X c) c P S E I m → ByPlace K X c
-lanes-by-place {K = K} {X} {c} A = booked-by-place K X c (A .few-rows) (A .booked)
+-- crossings may be looked up in the arrays that hold the rows
+pub lanes-kept : {C D F T H L : List ℕ} {n k : ℕ} {K X : List ℕ} {c : ℕ} {P S E I : List ℕ} {m : ℕ} → Lanes C D F T H L n k (rowsIn K X c) c P S E I m → Kept K X c
+lanes-kept {K = K} {X} {c} A = booked-kept K X c (A .few-rows) (A .booked)

@@ -10,7 +10,7 @@ use Rattle.laws.specs.Tests.{true-or-false, not-both}
 use Rattle.laws.specs.Lists.{at}
 use Rattle.rules.specs.declared.Row.{Row}
 use Rattle.rules.specs.Map.{Yard, linked}
-use Rattle.rules.specs.Rows.{barred}
+use Rattle.rules.specs.Rows.{Barred}
 use Rattle.lanes.specs.Reach.{next, next-low, next-step, next-top}
 use Rattle.flat.specs.Flat.{linksIn, lastBefore, Chained, spanAt, Grouped}
 use Rattle.flat.specs.Laws.{LastIs, last-is}
@@ -89,7 +89,7 @@ module _ (rows : List Row) {n k m : ℕ} {D F T H N P S E I : List ℕ} (G : Gro
             left = s .before;
             begun = s .from;
             fits = omega (arith, s .fits);
-            clear = subst (λ x. barred rows x (at P v) (nextBy Y rows P S E u v e) ≡ false) up (s .clear);
+            clear = subst (λ x. Barred rows x (at P v) (nextBy Y rows P S E u v e) → ⊥) up (s .clear);
           };
           low = λ x A. next-low Y rows (spanAt P S E u) (spanAt P S E v) e x (record {
             linked = rw up l;

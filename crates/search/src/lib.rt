@@ -6,7 +6,7 @@ ghost use lib.ListN.{length};
 ghost use Rattle.laws.specs.Lists.{at};
 ghost use Rattle.flat.specs.Flat.{rowsIn, yardIn};
 ghost use Rattle.settle.specs.Blocks.{Blocks};
-ghost use Rattle.lookup.specs.Crossings.{ByPlace, Between};
+ghost use Rattle.lookup.specs.Crossings.{Kept, Between};
 ghost use Rattle.search.specs.Entries.{FirstClear};
 ghost use Rattle.search.specs.Offers.{Row1, Labels, Tried, OfferedTo, OpenFrom, BeginsAt};
 ghost use Rattle.settle.specs.Search.{Answer, Rooted};
@@ -44,7 +44,7 @@ fn sooner(a: u32, b: u32) -> u32
     b
 }
 
-// The least second of lo to hi at which the crossing is not barred, 86,401 where there is none.
+// The least second of lo to hi at which the crossing is not barred, 86,401 where there is none. Most often it is the first.
 fn first_entry(
     key: &[u64; 1024],
     tail: &[u32; 1024],
@@ -58,7 +58,13 @@ fn first_entry(
     requires { ⌜ hi ≤ 86400 ⌝ }
     ensures { λ r. ⌜ FirstClear (rowsIn (now (key .entry)) (now (tail .entry)) n) q p lo hi r ⌝ }
 {
-    let mut t = lo;
+    if lo > hi {
+        return 86401;
+    }
+    if !lookup::barred(key, tail, n, q, p, lo) {
+        return lo;
+    }
+    let mut t = lo + 1;
     'window: loop {
         if t > hi {
             break 'window 86401;
@@ -235,7 +241,7 @@ fn relax(
     before: &mut [u16; 1280],
 )
     requires { ⌜ Ground places links windows (now dur) (now from) (now to) (now head) (now chain) (now place) (now start) (now end) (now first) ⌝ }
-    requires { ⌜ (w < windows) × (at (now label) w ≤ 86400) × ByPlace (now key) (now tail) n ⌝ }
+    requires { ⌜ (w < windows) × (at (now label) w ≤ 86400) × Kept (now key) (now tail) n ⌝ }
     requires { ⌜ Labels (now label) (now live) (now before) ⌝ }
     requires { ⌜ Blocks (now live) (now least) ⌝ }
     ensures { λ _. ⌜ Relaxed (rowsIn (now (key .entry)) (now (tail .entry)) n) places links windows (now (dur .entry)) (now (from .entry)) (now (to .entry)) (now (place .entry)) (now (start .entry)) (now (end .entry)) w (now (label .entry)) (now (live .entry)) (now (before .entry)) (now (label .exit)) (now (live .exit)) (now (before .exit)) × (Labels (now (label .exit)) (now (live .exit)) (now (before .exit)) × Blocks (now (live .exit)) (now (least .exit))) ⌝ }

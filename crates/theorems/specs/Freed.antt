@@ -16,7 +16,7 @@ use Rattle.rules.specs.declared.Booking.{Booking}
 use Rattle.rules.specs.declared.Cancelling.{Cancelling}
 use Rattle.rules.specs.Map.{Yard}
 use Rattle.rules.specs.Rows.{Key, rowKey, Less, Rising, load, choose, keep, insertAll}
-use Rattle.rules.specs.RowLaws.{barred-fewer}
+use Rattle.rules.specs.RowLaws.{leads-fewer}
 use Rattle.rules.specs.Plan.{Stay, stayAt, Permitted, runRows}
 use Rattle.rules.specs.Book.{WellFormed, Whole, ofTicket, otherTicket}
 use Rattle.rules.specs.GateLaws.{unless, checked}
@@ -51,7 +51,7 @@ fewer-permit {rows} {plan} f P = record {
   first-entry = P .first-entry;
   last-place = P .last-place;
   room = λ p t h. omega (arith, load-keep p t f rows, P .room p t h);
-  exchange = λ i h. barred-fewer ((stayAt plan i) .place) ((stayAt plan (suc i)) .place) ((stayAt plan i) .exit) (λ r m. mem-keep f r rows m .0) (P .exchange i h);
+  exchange = λ i h l. P .exchange i h (leads-fewer (λ r m. mem-keep f r rows m .0) l);
 }
 
 -- rows in key order are given by what they are

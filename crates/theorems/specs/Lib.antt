@@ -1,4 +1,5 @@
 pub mod Entries
 pub mod Freed
+pub mod Rings
 pub mod Program
 pub mod Theorems

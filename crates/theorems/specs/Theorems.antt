@@ -19,7 +19,8 @@ use Rattle.rules.specs.declared.Booking.{Booking}
 use Rattle.rules.specs.declared.Cancelling.{Cancelling}
 use Rattle.rules.specs.Limits.{day}
 use Rattle.rules.specs.Map.{Yard, GoodMap, mapYard}
-use Rattle.rules.specs.Rows.{Key, firstKey, load, keep, insertAll}
+use Rattle.rules.specs.Rows.{Key, firstKey, load, Barred, Ring, keep, insertAll}
+use Rattle.rules.specs.RowLaws.{leads-fewer}
 use Rattle.rules.specs.Plan.{Stay, stayAt, Permitted, arrival, runRows}
 use Rattle.rules.specs.Book.{GoodBook, Whole, rowsOf, bookOf, ofTicket, otherTicket}
 use Rattle.rules.specs.Page.{pageRows, pageMore, lastKey}
@@ -38,6 +39,7 @@ use Rattle.rules.specs.Walk.{Others, Walk, Walked}
 use Rattle.walks.specs.WalkLaws.{others-good, walked}
 use Rattle.theorems.specs.Program.{begins-sound, lines-sound, not-02}
 use Rattle.theorems.specs.Freed.{load-split, fewer-permit, PermittedRun, run-permitted, cancelling-next, others-next}
+use Rattle.theorems.specs.Rings.{no-ring, barred-ring, ring-barred}
 use Rattle.rules.specs.Portal.{PortalPlan, PortalPage}
 use Rattle.rules.specs.Frames.{lineOf, LineSays, LinesSay, allLines, begins}
 use Rattle.unique.specs.Unique.{no-second-plan, no-second-booking, no-second-cancelling, no-second-page, no-second-portal-plan, no-second-portal-page}
@@ -50,7 +52,8 @@ use Rattle.rules.specs.Program.{AnswerIs, EndedIs, Ends, FedIs, LineIs, Sitting
 use Rattle.frames.specs.Cutting.{whole-output}
 use Rattle.frames.specs.Unique.{no-second-answer, no-second-feeding, no-second-ending}
 
--- ---- demand 2: "the plan given overfills no place, meets no booked wagon in a head-on exchange, and no permitted plan arrives sooner"
+-- ---- demand 2: "the plan given overfills no place, meets no booked wagon in a head-on exchange, and no permitted plan arrives sooner",
+-- which "reads the wider rule": it makes no crossing that is barred
 
 pub record Given (m : Map) (b : Book) (start dest s : ℕ) (was out : List ℕ) (r : Planned) : Type 0 where
   pub plan : List Stay
@@ -249,6 +252,23 @@ lanebook-keeps-it-good L = lines-sound L begins-sound .good
 
 pub lanebook-never-answers-2 : {s s′ : State} {lines : List (List ℕ)} {said line answer : List ℕ} → LinesSay begins lines s said → LineSays s line s′ answer → answer ≡ lineOf (2 ∷ []) → ⊥
 lanebook-never-answers-2 L = not-02 (lines-sound L begins-sound)
+
+-- ---- "a crossing at second t is barred if, together with booked crossings at t, it closes a ring of two or more places. So too in a well-formed book"
+-- A ring is a closed walk over places, of any length, each left for the next by a booked crossing of that second (`Ring` in rules/specs/Rows.antt).
+
+pub a-good-book-holds-no-ring : {Y : Yard} {b : Book} → GoodBook Y b → {t : ℕ} {walk : List ℕ} → Ring (rowsOf b) t walk → ⊥
+a-good-book-holds-no-ring B = no-ring (B .formed .exchange)
+
+-- so that beside a good book a crossing is barred exactly where it closes a ring
+module _ {Y : Yard} {b : Book} (B : GoodBook Y b) (r : Row) (goes-on : r .next ≡ r .place → ⊥) where
+  pub what-is-barred-closes-a-ring : Barred (rowsOf b) (r .place) (r .next) (r .exit) → (walk : List ℕ) × Ring (r ∷ rowsOf b) (r .exit) walk
+  what-is-barred-closes-a-ring = barred-ring r (rowsOf b) goes-on
+
+  pub what-closes-a-ring-is-barred : {walk : List ℕ} → Ring (r ∷ rowsOf b) (r .exit) walk → Barred (rowsOf b) (r .place) (r .next) (r .exit)
+  what-closes-a-ring-is-barred = ring-barred r (rowsOf b) goes-on (B .formed .exchange)
+
+pub fewer-rows-bar-no-more : {few rows : List Row} → ((r : Row) → List·Memᴰ r few → List·Memᴰ r rows) → {p q t : ℕ} → Barred few p q t → Barred rows p q t
+fewer-rows-bar-no-more f l = leads-fewer f l
 
 -- ---- demand 3: "Take a walk over one book from the first cursor to a page that says no more .. while others plan, book and cancel between pages."
 -- `Walked` (rules/specs/Walk.antt) has its five sentences.

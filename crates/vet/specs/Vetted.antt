@@ -38,6 +38,7 @@ formed-booked R few W =
       on-map = λ r m. omega (arith, tested .each r m .on-map);
       lasts = λ r m. omega (arith, tested .each r m .lasts, R .long (r .place));
       goes-in = λ r m g. let s = tested .each r m .joined g in record { row = s .row; in-book = s .in-book; place = s .follows .place; entry = s .follows .entry };
+      unbarred = W .exchange;
     }
 
 -- ---- the verdict

@@ -3,7 +3,7 @@
 use native.Mathlib.Omega.{arith}
 use borrow.Author.Tests.{not-true, not-false}
 use Rattle.laws.specs.Tests.{not-both}
-use Rattle.bookfit.specs.Answer.{few-links, sound-given, sound-by-place, not-formed, overfull-book, opposed-book, formed-book}
+use Rattle.bookfit.specs.Answer.{few-links, sound-given, sound-by-place, not-formed, overfull-book, barred-book, formed-book}
 use Rattle.bookfit.proofs.book_fits.Statement.{statement}
 use Rattle.bookfit.proofs.book_fits.Tie as tie
 
@@ -65,7 +65,7 @@ returns-3 c =
     let T = s .args .to .now in
     let K = s .args .key .now in
     let X = s .args .tail .now in
-    opposed-book C D (s .args .n) F T (s .args .k) K X (s .args .count) (s .args .next-ticket) (s .pre .0) _ _ _ _ _ (c .before .before .before .all-windows .ensures) (λ u. not-both (c .before .exchange-kept .ensures .1 u) (not-true (c .before .exchange-kept .result) (c .if3 .taken)))
+    barred-book C D (s .args .n) F T (s .args .k) K X (s .args .count) (s .args .next-ticket) (s .pre .0) _ _ _ _ _ (c .before .before .before .all-windows .ensures) (λ u. not-both (c .before .exchange-kept .ensures .1 u) (not-true (c .before .exchange-kept .result) (c .if3 .taken)))
 
 returns-4 : tie.Need-returns-4
 returns-4 c =

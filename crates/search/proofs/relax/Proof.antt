@@ -85,7 +85,7 @@ relax-link-requires c κs =
     let qn : q < a .places = G .to-on j jk in
     let h = group-place (G .by-place) (a .w) (s .pre .1 .0 .0) in
     let e = ap (at (a .dur .now)) (c .before .before .before .before .before .before .before .before .before .before .before .before .wide .ensures .0) in (
-      (record { by-place = s .pre .1 .0 .2; apart = λ z. G .apart j jk (z ∙ sym (l .inv .leaves j ej)) }, omega (arith, G .windows, s .pre .1 .0 .0), omega (arith, s .pre .1 .0 .1, G .durs (at (a .place .now) (a .w)) h), G .in-day (a .w) (s .pre .1 .0 .0)),
+      (record { kept = s .pre .1 .0 .2; apart = λ z. G .apart j jk (z ∙ sym (l .inv .leaves j ej)) }, omega (arith, G .windows, s .pre .1 .0 .0), omega (arith, s .pre .1 .0 .1, G .durs (at (a .place .now) (a .w)) h), G .in-day (a .w) (s .pre .1 .0 .0)),
       (
         (G .by-place .up q qn, omega (arith, group-end (G .by-place) (q + 1) (omega arith), G .windows), G .durs q qn),
         (G .of-place q qn, (l .inv .labels, l .inv .blocks)),

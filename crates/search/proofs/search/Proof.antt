@@ -7,7 +7,7 @@ use borrow.Author.Tests.{eq-eqb, ne-eqb}
 use Rattle.flat.specs.Flat.{rowsIn, yardIn}
 use Rattle.settle.specs.Search.{Going, doneOf, opens, going-start, going-none, going-goal, closed-above, going-less, going-turn, in-n, low-u}
 use Rattle.search.specs.Relax.{nextBy}
-use Rattle.search.specs.Lanes.{atDest, lanes-ground, lanes-by-place, lanes-runs, lanes-mono, lanes-later}
+use Rattle.search.specs.Lanes.{atDest, lanes-ground, lanes-kept, lanes-runs, lanes-mono, lanes-later}
 use Rattle.search.proofs.search.Statement.{statement}
 use Rattle.search.proofs.search.Tie as tie
 
@@ -85,7 +85,7 @@ relax-requires c κs =
     let e = c .before .before .before .before .close .ensures in (
       lanes-ground L,
       (
-        (in-n (L .few) (P .1 .0 .0) (P .1 .0 .1) (lanes-mono L) (lanes-later L) g (omega arith) (p .ensures) k, omega (arith, low-u (L .few) (P .1 .0 .0) (P .1 .0 .1) (lanes-mono L) (lanes-later L) g (omega arith) (p .ensures) k), lanes-by-place L),
+        (in-n (L .few) (P .1 .0 .0) (P .1 .0 .1) (lanes-mono L) (lanes-later L) g (omega arith) (p .ensures) k, omega (arith, low-u (L .few) (P .1 .0 .0) (P .1 .0 .1) (lanes-mono L) (lanes-later L) g (omega arith) (p .ensures) k), lanes-kept L),
         (record { low = g .below; above = closed-above (L .few) (P .1 .0 .0) (P .1 .0 .1) (lanes-mono L) (lanes-later L) g (omega arith) (p .ensures) k (e .0); len-lab = g .len-lab; len-bef = g .len-bef }, e .1),
       ),
     )
