@@ -2,6 +2,8 @@
 
 #![allow(dead_code)]
 
+use std::collections::BTreeMap;
+
 pub const DAY: u32 = 86_400;
 pub const MOST_PLACES: usize = 256;
 pub const MOST_LINKS: usize = 1_024;
@@ -25,6 +27,30 @@ pub const NO_SUCH_TICKET: u8 = 9;
 pub const BAD_PAGE_SIZE: u8 = 10;
 pub const BAD_CURSOR: u8 = 11;
 pub const BAD_FRAME: u8 = 12;
+
+/// A set of places, one bit for each.
+#[derive(Clone, Copy, Default, PartialEq)]
+pub struct Places([u64; 4]);
+
+impl Places {
+    pub fn has(&self, place: usize) -> bool {
+        self.0[place / 64] >> (place % 64) & 1 == 1
+    }
+    pub fn put(&mut self, place: usize) {
+        self.0[place / 64] |= 1 << (place % 64);
+    }
+    pub fn take(&mut self, place: usize) {
+        self.0[place / 64] &= !(1 << (place % 64));
+    }
+    pub fn put_all(&mut self, other: &Places) {
+        for i in 0..4 {
+            self.0[i] |= other.0[i];
+        }
+    }
+    pub fn is_empty(&self) -> bool {
+        self.0 == [0; 4]
+    }
+}
 
 #[derive(Clone, Copy)]
 pub struct Place {
@@ -115,14 +141,42 @@ impl Book {
     }
 }
 
+/// The booked crossings of each second at which there is one, each as from and to.
+pub type Crossings = BTreeMap<u32, Vec<(usize, usize)>>;
+
+pub fn crossings(rows: &[Row]) -> Crossings {
+    let mut found = Crossings::new();
+    for (from, to, t) in rows.iter().filter_map(|row| row.crossing()) {
+        found.entry(t).or_default().push((from, to));
+    }
+    found
+}
+
+/// The places that crossings of one second lead to from a place, in one or more steps and at
+/// most as many as given. No more steps are needed than there are places.
+pub fn led_to(crossings: &[(usize, usize)], from: usize, steps: usize) -> Places {
+    let mut led = Places::default();
+    for _ in 0..steps {
+        let before = led;
+        for &(p, q) in crossings {
+            if p == from || before.has(p) {
+                led.put(q);
+            }
+        }
+        if led == before {
+            break;
+        }
+    }
+    led
+}
+
 /// Whether the book is well formed on a map that keeps its rules.
 pub fn well_formed(map: &Map, book: &Book) -> bool {
-    counts_kept(book)
-        && ranges_kept(map, book)
-        && keys_rise(book)
-        && plans_whole(map, book)
-        && load_kept(map, book)
-        && exchange_kept(book)
+    well_formed_but_for_rings(map, book) && rings_kept(book)
+}
+
+pub fn well_formed_but_for_rings(map: &Map, book: &Book) -> bool {
+    counts_kept(book) && ranges_kept(map, book) && keys_rise(book) && plans_whole(map, book) && load_kept(map, book)
 }
 
 pub fn counts_kept(book: &Book) -> bool {
@@ -195,16 +249,19 @@ pub fn load_kept(map: &Map, book: &Book) -> bool {
     true
 }
 
-/// No row goes from p to q at the second at which another goes from q to p.
-pub fn exchange_kept(book: &Book) -> bool {
-    for one in &book.rows {
-        for other in &book.rows {
-            if let (Some((p, q, t)), Some(opposing)) = (one.crossing(), other.crossing()) {
-                if opposing == (q, p, t) {
-                    return false;
-                }
-            }
-        }
-    }
-    true
+/// In no second do crossings lead from a place back to it: there is no ring of two or more places.
+pub fn rings_kept(book: &Book) -> bool {
+    crossings(&book.rows).values().all(|met| !closes_ring(met, MOST_PLACES))
+}
+
+/// Whether crossings of one second lead from some place back to it in at most so many steps.
+fn closes_ring(met: &[(usize, usize)], steps: usize) -> bool {
+    met.iter().any(|&(p, _)| led_to(met, p, steps).has(p))
+}
+
+/// The number of places of the book's shortest ring, if it has one.
+pub fn shortest_ring(book: &Book) -> Option<usize> {
+    let mut with_ring = crossings(&book.rows);
+    with_ring.retain(|_, met| closes_ring(met, MOST_PLACES));
+    with_ring.values().filter_map(|met| (1..=MOST_PLACES).find(|&steps| closes_ring(met, steps))).min()
 }

@@ -9,6 +9,7 @@ use crate::plan::Seconds;
 /// Which planner answers: the one that walks the seconds, or one of the errors we have seen.
 /// 0 is the faulty planner without an error; 1 to 3 are its errors; 4 pages by finding the
 /// cursor's row, 6 by skipping as many rows as were shown; 5 gives a cancelled number out again.
+/// 7 and 8 walk the seconds and look for a ring by one step and by three steps only.
 pub type Error = Option<u32>;
 
 pub struct Desk {
@@ -23,7 +24,12 @@ pub struct Desk {
 
 impl Desk {
     pub fn new(error: Error) -> Desk {
-        Desk { map: Map::default(), book: Book::new(), asked: false, seconds: Seconds::new(), error, shown: 0 }
+        let seconds = match error {
+            Some(7) => Seconds::looking(1),
+            Some(8) => Seconds::looking(3),
+            _ => Seconds::new(),
+        };
+        Desk { map: Map::default(), book: Book::new(), asked: false, seconds, error, shown: 0 }
     }
 
     /// The answer to one line, the line feeds included.

@@ -30,5 +30,13 @@ impl Dice {
     }
     pub fn pick<T: Copy>(&mut self, from: &[T]) -> T {
         from[self.below(from.len())]
+    }    /// The numbers below n in some order.
+    pub fn shuffled(&mut self, n: usize) -> Vec<usize> {
+        let mut numbers: Vec<usize> = (0..n).collect();
+        for last in (1..n).rev() {
+            let other = self.below(last + 1);
+            numbers.swap(last, other);
+        }
+        numbers
     }
 }

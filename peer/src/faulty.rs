@@ -2,7 +2,7 @@
 //! With error 0 it makes none.
 
 use crate::barn::{Map, Row, DAY};
-use std::collections::HashSet;
+use std::collections::{HashMap, HashSet};
 
 const NEVER: u32 = DAY + 1;
 
@@ -16,7 +16,10 @@ struct Window {
 }
 
 pub fn plan(map: &Map, rows: &[Row], start: usize, destination: usize, second: u32, error: u32) -> Option<Vec<Row>> {
-    let booked: HashSet<(usize, usize, u32)> = rows.iter().filter_map(|row| row.crossing()).collect();
+    let mut booked: HashMap<(usize, u32), Vec<usize>> = HashMap::new();
+    for (from, to, t) in rows.iter().filter_map(|row| row.crossing()) {
+        booked.entry((from, t)).or_default().push(to);
+    }
     let linked: HashSet<(usize, usize)> = map.links.iter().copied().collect();
     let mut windows = windows(map, rows);
     for window in windows.iter_mut().filter(|window| window.place == start) {
@@ -50,7 +53,7 @@ pub fn plan(map: &Map, rows: &[Row], start: usize, destination: usize, second: u
             let least = windows[after].from.max(windows[here].entry + map.duration(place));
             let most = windows[here].to.min(windows[after].to - map.duration(to));
             for t in least..=most {
-                if !booked.contains(&(to, place, t)) {
+                if !leads(&booked, t, to, place) {
                     if t < windows[after].entry {
                         windows[after].entry = t;
                         windows[after].before = Some(here);
@@ -64,6 +67,24 @@ pub fn plan(map: &Map, rows: &[Row], start: usize, destination: usize, second: u
             }
         }
     }
+}
+
+/// Whether booked crossings at second t lead from one place to another.
+fn leads(booked: &HashMap<(usize, u32), Vec<usize>>, t: u32, from: usize, to: usize) -> bool {
+    let mut met = vec![from];
+    let mut at = 0;
+    while at < met.len() {
+        for &next in booked.get(&(met[at], t)).into_iter().flatten() {
+            if next == to {
+                return true;
+            }
+            if !met.contains(&next) {
+                met.push(next);
+            }
+        }
+        at += 1;
+    }
+    false
 }
 
 fn windows(map: &Map, rows: &[Row]) -> Vec<Window> {

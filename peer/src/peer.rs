@@ -17,7 +17,7 @@ fn asked() -> (desk::Error, bool) {
         [] => (None, false),
         ["--check"] => (None, true),
         ["--error", number] => match number.parse() {
-            Ok(number) if number <= 6 => (Some(number), false),
+            Ok(number) if number <= 8 => (Some(number), false),
             _ => usage(),
         },
         _ => usage(),
@@ -25,7 +25,7 @@ fn asked() -> (desk::Error, bool) {
 }
 
 fn usage() -> ! {
-    eprintln!("usage: peer [--check | --error 0..6]");
+    eprintln!("usage: peer [--check | --error 0..8]");
     exit(2)
 }
 

@@ -3,32 +3,7 @@
 //! For each second t, from the asked second on, the walk knows which places a permitted
 //! beginning of a plan can enter at t, and which it can leave at t.
 
-use crate::barn::{Map, Row, DAY};
-use std::collections::HashSet;
-
-/// A set of places, one bit for each.
-#[derive(Clone, Copy, Default, PartialEq)]
-struct Places([u64; 4]);
-
-impl Places {
-    fn has(&self, place: usize) -> bool {
-        self.0[place / 64] >> (place % 64) & 1 == 1
-    }
-    fn put(&mut self, place: usize) {
-        self.0[place / 64] |= 1 << (place % 64);
-    }
-    fn take(&mut self, place: usize) {
-        self.0[place / 64] &= !(1 << (place % 64));
-    }
-    fn put_all(&mut self, other: &Places) {
-        for i in 0..4 {
-            self.0[i] |= other.0[i];
-        }
-    }
-    fn is_empty(&self) -> bool {
-        self.0 == [0; 4]
-    }
-}
+use crate::barn::{crossings, led_to, Crossings, Map, Places, Row, DAY, MOST_PLACES};
 
 /// A longest stretch of free seconds and the first second a permitted beginning enters it.
 struct Stretch {
@@ -44,12 +19,19 @@ pub struct Seconds {
     free: Vec<Places>,
     /// A permitted beginning of a plan can enter the place at this second.
     entered: Vec<Places>,
+    /// How many steps of booked crossings are looked at for a ring.
+    steps: usize,
 }
 
 impl Seconds {
     pub fn new() -> Seconds {
+        Seconds::looking(MOST_PLACES)
+    }
+
+    /// With fewer steps than there are places, longer rings are not seen.
+    pub fn looking(steps: usize) -> Seconds {
         let none = vec![Places::default(); DAY as usize + 1];
-        Seconds { free: none.clone(), entered: none }
+        Seconds { free: none.clone(), entered: none, steps }
     }
 
     /// The chosen plan's rows in travel order with ticket 0, or none where no plan is permitted.
@@ -74,18 +56,13 @@ impl Seconds {
 
         // What happens in the book, in order of seconds.
         let mut changes: Vec<(u32, usize, i32)> = Vec::new();
-        let mut crossings: Vec<(u32, usize, usize)> = Vec::new();
         for row in rows {
             changes.push((row.entry, row.place, 1));
             changes.push((row.exit, row.place, -1));
-            if let Some((from, to, t)) = row.crossing() {
-                crossings.push((t, from, to));
-            }
         }
         changes.sort();
-        crossings.sort();
         let mut changes = changes.into_iter().peekable();
-        let mut crossings = crossings.into_iter().peekable();
+        let booked = crossings(rows);
 
         let mut load = vec![0i32; n];
         let mut free = Places::default();
@@ -126,26 +103,15 @@ impl Seconds {
                 }
             }
             let mut entered = reach;
-            let mut met: Vec<(usize, usize)> = Vec::new();
-            while let Some(&(at, from, to)) = crossings.peek() {
-                if at > t {
-                    break;
-                }
-                if at == t {
-                    met.push((from, to));
-                }
-                crossings.next();
-            }
-            if !met.is_empty() {
+            if let Some(met) = booked.get(&t) {
                 entered = Places::default();
                 for place in (0..n).filter(|&place| ready.has(place)) {
-                    let mut open = onward[place];
-                    for &(from, to) in &met {
-                        if to == place {
-                            open.take(from);
+                    for to in (0..n).filter(|&to| onward[place].has(to)) {
+                        // Barred where the booked crossings lead back to the place.
+                        if !led_to(met, to, self.steps).has(place) {
+                            entered.put(to);
                         }
                     }
-                    entered.put_all(&open);
                 }
             }
             if t == second {
@@ -182,7 +148,7 @@ impl Seconds {
     /// Walks back from the destination along the stretches that yield each earliest entry.
     fn chosen(&self, map: &Map, rows: &[Row], destination: usize, second: u32, arrival: u32) -> Vec<Row> {
         let stretches = self.stretches(map, second, arrival);
-        let booked: HashSet<(usize, usize, u32)> = rows.iter().filter_map(|row| row.crossing()).collect();
+        let booked = crossings(rows);
 
         let mut here = stretches
             .iter()
@@ -202,7 +168,7 @@ impl Seconds {
             here = stretches
                 .iter()
                 .filter(|before| map.has_link(before.place, here.place))
-                .filter(|before| yielded(map, &booked, before, here) == Some(here.entry))
+                .filter(|before| self.yielded(map, &booked, before, here) == Some(here.entry))
                 .min_by_key(|before| (before.entry, before.place, before.from))
                 .expect("some stretch yields the entry");
         }
@@ -238,14 +204,17 @@ impl Seconds {
         }
         found
     }
-}
 
-/// The least second not barred by an opposing crossing, out of those that both stretches and
-/// the duration allow.
-fn yielded(map: &Map, booked: &HashSet<(usize, usize, u32)>, before: &Stretch, after: &Stretch) -> Option<u32> {
-    let least = after.from.max(before.entry + map.duration(before.place));
-    let most = before.to.min(after.to - map.duration(after.place));
-    (least..=most).find(|&t| !booked.contains(&(after.place, before.place, t)))
+    /// The least second at which the crossing is not barred, out of those that both stretches
+    /// and the duration allow.
+    fn yielded(&self, map: &Map, booked: &Crossings, before: &Stretch, after: &Stretch) -> Option<u32> {
+        let least = after.from.max(before.entry + map.duration(before.place));
+        let most = before.to.min(after.to - map.duration(after.place));
+        (least..=most).find(|t| match booked.get(t) {
+            Some(met) => !led_to(met, after.place, self.steps).has(before.place),
+            None => true,
+        })
+    }
 }
 
 /// Whether links lead from one place to the other.

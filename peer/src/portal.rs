@@ -6,6 +6,9 @@
 //! MAP and BOOK are slices in uppercase hexadecimal (- for an empty one), BYTES is the length
 //! of the answer slice, and the other numbers are decimal. Each call prints its result as one
 //! decimal number and then each row written, packed as in the frames.
+//!
+//! With `--rings`, each call whose book is well formed but for its rings prints instead the
+//! number of places of the shortest, and the other calls print nothing.
 
 mod barn;
 mod desk;
@@ -104,7 +107,15 @@ fn slice(word: &str) -> Vec<u8> {
     desk::bytes(word.as_bytes()).expect("a slice in hexadecimal")
 }
 
+/// The places of the shortest ring of a book that is refused for rings alone.
+fn ring_alone(map: &[u8], book: &[u8]) -> Option<usize> {
+    let map = map_of(map).filter(|map| map.keeps_rules())?;
+    let book = book_of(book).filter(|book| well_formed_but_for_rings(&map, book))?;
+    shortest_ring(&book)
+}
+
 fn main() -> io::Result<()> {
+    let rings = std::env::args().nth(1).as_deref() == Some("--rings");
     let mut input = String::new();
     io::stdin().lock().read_to_string(&mut input)?;
     let mut out = io::stdout().lock();
@@ -112,6 +123,12 @@ fn main() -> io::Result<()> {
     for line in input.lines() {
         let words: Vec<&str> = line.split(' ').collect();
         let (map, book) = (slice(words[1]), slice(words[2]));
+        if rings {
+            if let Some(places) = ring_alone(&map, &book) {
+                writeln!(out, "{}", places)?;
+            }
+            continue;
+        }
         let numbers: Vec<u64> = words[3..].iter().map(|word| word.parse().expect("a number")).collect();
         let (length, asked) = numbers.split_last().expect("the length of the answer slice");
         let room = length / PACKED_ROW as u64;

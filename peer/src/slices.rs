@@ -3,7 +3,8 @@
 //! The kind `calls`, where none is named: most calls stand beside a book that is well formed or
 //! nearly so. `sweep`: one sound map and book, then each length of each slice, each byte
 //! changed, counts that lie, and each number at and past its range. `limits`: as many places,
-//! links, rows and steps as there may be, and one more.
+//! links, rows and steps as there may be, and one more. `rings`: books of up to 1,000 rows with a
+//! ring of crossings in one second, and the same books with a ring that is nearly closed.
 
 mod barn;
 mod desk;
@@ -423,6 +424,166 @@ fn limits(dice: &mut Dice, out: &mut impl Write) -> io::Result<()> {
     Ok(())
 }
 
+/// A map with a ring road through some of its places, these given in their order.
+fn ring_map(dice: &mut Dice, long: usize) -> (Map, Vec<usize>) {
+    let n = (long + dice.pick(&[0, 2, 10, 40, 150])).min(256);
+    let most = dice.pick(&[1, 2, 4, 16]);
+    let least = if dice.chance(50) { most } else { 1 };
+    let longest = dice.pick(&[1, 5, 60]);
+    let places =
+        (0..n).map(|_| Place { capacity: dice.among(least, most) as u32, duration: dice.among(1, longest) as u32 }).collect();
+    let order = dice.shuffled(n);
+    let ring = order[..long].to_vec();
+    let mut links: Vec<(usize, usize)> = (0..long).map(|at| (ring[at], ring[(at + 1) % long])).collect();
+    links.extend((0..n).map(|at| (order[at], order[(at + 1) % n])));
+    for _ in 0..dice.below(2 * n) {
+        links.push((dice.below(n), dice.below(n)));
+    }
+    links.retain(|link| link.0 != link.1);
+    links.sort();
+    links.dedup();
+    (Map { places, links }, ring)
+}
+
+/// The run through these places that goes on from the one at `at` at second t; it waits there for
+/// some seconds and nowhere else.
+fn run_through(map: &Map, places: &[usize], at: usize, t: u32, wait: u32, ticket: u32) -> Vec<Row> {
+    let before: u32 = places[..=at].iter().map(|&place| map.duration(place)).sum();
+    let mut entry = t - wait - before;
+    let mut rows = Vec::new();
+    for (i, &place) in places.iter().enumerate() {
+        let exit = entry + map.duration(place) + if i == at { wait } else { 0 };
+        let next = if i + 1 < places.len() { places[i + 1] } else { place };
+        rows.push(Row { place, entry, ticket, exit, next });
+        entry = exit;
+    }
+    rows
+}
+
+/// The place that some link leads to from here, or leads here from.
+fn beyond(dice: &mut Dice, map: &Map, here: usize, backward: bool) -> usize {
+    let ends = map.links.iter().map(|&(from, to)| if backward { (to, from) } else { (from, to) });
+    let found: Vec<usize> = ends.filter(|ends| ends.0 == here).map(|ends| ends.1).collect();
+    dice.pick(&found)
+}
+
+/// The rows of a ring's runs in second t, and those of the same ring not quite closed.
+fn ring_and_near_misses(dice: &mut Dice, map: &Map, ring: &[usize], t: u32) -> Vec<Vec<Row>> {
+    let long = ring.len();
+    let lengthen = dice.pick(&[0, 0, 10, 40]);
+    let mut runs = Vec::new();
+    for at in 0..long {
+        let mut places = vec![ring[at], ring[(at + 1) % long]];
+        let mut from = 0;
+        while dice.chance(lengthen) && from < 4 {
+            places.insert(0, beyond(dice, map, places[0], true));
+            from += 1;
+        }
+        while dice.chance(lengthen) && places.len() < 8 {
+            places.push(beyond(dice, map, places[places.len() - 1], false));
+        }
+        let wait = dice.pick(&[0, 0, 0, 1, 7]);
+        runs.push((places, from, wait, 1 + at as u32));
+    }
+    let run = |at: usize, t: u32| run_through(map, &runs[at].0, runs[at].1, t, runs[at].2, runs[at].3);
+    let open = dice.below(long);
+    let whole: Vec<Row> = (0..long).flat_map(|at| run(at, t)).collect();
+    let chain: Vec<Row> = (0..long).filter(|&at| at != open).flat_map(|at| run(at, t)).collect();
+    // One run reaches the place before the opening and ends there, another begins behind it.
+    let ends = run_through(map, &[ring[open]], 0, t, 0, 1 + open as u32);
+    let behind = ring[(open + 1) % long];
+    let begins = run_through(map, &[behind], 0, t + map.duration(behind), 0, 1 + long as u32);
+    // A run of the chain once more under another ticket.
+    let again = run((open + 1) % long, t).into_iter().map(|row| Row { ticket: 2 + long as u32, ..row });
+    // Every crossing in a second of its own, or in one of a few, but not all in one.
+    let mut seconds: Vec<u32> = (0..long).map(|_| t + dice.below(3) as u32).collect();
+    if dice.chance(30) {
+        seconds = (t..t + long as u32).collect();
+    }
+    seconds[open] = if seconds[(open + 1) % long] == t { t + 1 } else { t };
+    vec![
+        whole,
+        chain.clone(),
+        [chain.clone(), run(open, t + 1)].concat(),
+        [chain.clone(), run(open, t - 1)].concat(),
+        [chain.clone(), ends, begins].concat(),
+        chain.into_iter().chain(again).collect(),
+        (0..long).flat_map(|at| run(at, seconds[at])).collect(),
+    ]
+}
+
+fn rings(dice: &mut Dice, out: &mut impl Write) -> io::Result<()> {
+    let mut seconds = Seconds::new();
+    for _ in 0..6 {
+        let long = dice.pick(&[2, 2, 3, 3, 3, 4, 4, 5, 6, 8, 12, 24, 40, 64]);
+        let book = |rows: &[Row]| {
+            let mut book = Book { next_ticket: LAST_TICKET + 1, rows: rows.to_vec() };
+            book.rows.sort_by_key(|row| row.key());
+            book
+        };
+        // Whole runs and kept loads with the ring, and a well-formed book where it is open.
+        let (map, ring, t, all) = loop {
+            let (map, ring) = ring_map(dice, long);
+            let t = dice.pick(&[400, 5_000, 80_000]) + dice.below(2_000) as u32;
+            let all = ring_and_near_misses(dice, &map, &ring, t);
+            if barn::well_formed_but_for_rings(&map, &book(&all[0])) && barn::well_formed(&map, &book(&all[1])) {
+                break (map, ring, t, all);
+            }
+        };
+        let ring_rows = all.iter().map(|rows| rows.len()).max().unwrap_or(0);
+        let cases: Vec<&Vec<Row>> =
+            all.iter().enumerate().filter(|(i, rows)| *i == 0 || barn::well_formed(&map, &book(rows))).map(|(_, rows)| rows).collect();
+
+        // Other runs that are permitted beside every case; many of them also cross at second t.
+        let mut beside: Vec<Row> = cases.iter().flat_map(|rows| rows.iter().copied()).collect();
+        let cases_end = beside.len();
+        let mut ticket = 3 + long as u32;
+        let most = dice.pick(&[50, 300, 600, 1_000]);
+        for _ in 0..1_000 {
+            let start = dice.below(map.places.len());
+            let mut destination = start;
+            for _ in 0..dice.below(6) {
+                destination = beyond(dice, &map, destination, false);
+            }
+            let second = if dice.chance(25) { t - map.duration(start) } else { dice.below(85_000) as u32 };
+            if let Some(plan) = seconds.plan(&map, &beside, start, destination, second) {
+                if ring_rows + beside.len() - cases_end + plan.len() > most {
+                    break;
+                }
+                beside.extend(plan.iter().map(|row| Row { ticket, ..*row }));
+                ticket += 1;
+            }
+        }
+        let others = &beside[cases_end..];
+
+        // The ring is asked about as often as the near misses together, and twice at least.
+        let again = (cases.len() - 1).max(2);
+        let asked = std::iter::repeat(cases[0]).take(again).chain(cases[1..].iter().copied());
+        for rows in asked.collect::<Vec<_>>() {
+            // With all or some of the other runs, and with the tickets in some other order.
+            let share = dice.pick(&[100, 100, 80, 30]);
+            let with: Vec<bool> = (0..ticket).map(|_| dice.chance(share)).collect();
+            let names = dice.shuffled(ticket as usize - 1);
+            let some = others.iter().filter(|row| with[row.ticket as usize]);
+            let named: Vec<Row> = rows
+                .iter()
+                .chain(some)
+                .map(|row| Row { ticket: 1 + names[row.ticket as usize - 1] as u32, ..*row })
+                .collect();
+            let mut book = book(&named);
+            book.next_ticket = dice.pick(&[ticket, ticket + 1, LAST_TICKET + 1]);
+            let (from, far) = (dice.below(long), dice.below(long));
+            let second = t - map.duration(ring[from]);
+            let plan = [ring[from] as u64, ring[(from + far) % long] as u64, second as u64, 14_080];
+            let key = book.rows[dice.below(book.rows.len())].key();
+            let page = [dice.among(1, 64) as u64, key.0 as u64, key.1 as u64, key.2 as u64, 704];
+            let call = if dice.chance(50) { Asked::Plan(plan) } else { Asked::Page(page) };
+            ask(out, &map_slice(&map), &book_slice(&book), call)?;
+        }
+    }
+    Ok(())
+}
+
 fn main() -> io::Result<()> {
     let words: Vec<String> = std::env::args().skip(1).collect();
     let (seed, kind) = match &words[..] {
@@ -436,12 +597,13 @@ fn main() -> io::Result<()> {
         "calls" => calls(&mut dice, &mut out)?,
         "sweep" => sweep(&mut dice, &mut out)?,
         "limits" => limits(&mut dice, &mut out)?,
+        "rings" => rings(&mut dice, &mut out)?,
         _ => usage(),
     }
     out.flush()
 }
 
 fn usage() -> ! {
-    eprintln!("usage: slices SEED [calls|sweep|limits]");
+    eprintln!("usage: slices SEED [calls|sweep|limits|rings]");
     exit(2)
 }

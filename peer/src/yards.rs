@@ -14,11 +14,13 @@ use dice::Dice;
 use std::io::{self, Write};
 use std::process::exit;
 
-/// The kind of each seed, by its rest modulo 20: small contended yards above all.
-const KINDS: [&str; 20] = [
-    "contended", "contended", "alley", "contended", "evening", "contended", "walk", "ties",
-    "contended", "damaged", "contended", "badmap", "alley", "wide", "walk", "full",
-    "contended", "day", "alley", "contended",
+/// The kind of each seed, by its rest modulo 32: small contended yards above all, and more than
+/// one yard in three on ring roads.
+const KINDS: [&str; 32] = [
+    "contended", "contended", "ring", "alley", "contended", "crossed", "evening", "contended",
+    "rings", "walk", "ties", "great", "contended", "clock", "damaged", "contended", "crossed",
+    "badmap", "ring", "alley", "wide", "rings", "walk", "full", "crossed", "contended", "day",
+    "clock", "alley", "rings", "contended", "crossed",
 ];
 
 struct Yard {
@@ -265,12 +267,18 @@ impl Yard {
     fn walk(&mut self) {
         self.small_map(false);
         self.traffic(20, 0, 60);
+        let pages = self.dice.among(30, 80);
+        self.stroll(pages, 0, 89);
+    }
+
+    /// A walk over so many pages, with bookings between the two seconds and cancellations in turn.
+    fn stroll(&mut self, pages: usize, from: usize, to: usize) {
         self.cursor = (0, 0, 0);
-        for _ in 0..self.dice.among(30, 80) {
+        for _ in 0..pages {
             self.step();
             for _ in 0..self.dice.below(3) {
                 let (start, destination) = (self.some_place(), self.some_place());
-                let second = self.dice.below(90);
+                let second = self.dice.among(from, to);
                 if self.dice.chance(60) {
                     self.book(start, destination, second);
                 } else {
@@ -498,10 +506,272 @@ impl Yard {
         }
         self.traffic(15, 0, 600);
     }
+    /// Links from each of these places to the next and from the last to the first; some also
+    /// the other way.
+    fn ring_road(&mut self, ring: &[usize], both: usize) {
+        for at in 0..ring.len() {
+            let (from, to) = (ring[at], ring[(at + 1) % ring.len()]);
+            self.new_link(from, to);
+            if self.dice.chance(both) {
+                self.new_link(to, from);
+            }
+        }
+    }
+
+    /// Places for ring roads: capacities all equal or mixed, durations mostly equal, so that many
+    /// crossings fall into one second.
+    fn ring_places(&mut self, n: usize) {
+        let narrow = self.dice.pick(&[1, 1, 2, 2, 3]);
+        let mixed = self.dice.chance(30);
+        let longest = self.dice.pick(&[1, 2, 4, 10, 20]);
+        let same = self.dice.among(1, longest);
+        let equal = self.dice.chance(65);
+        for _ in 0..n {
+            let capacity = if mixed { self.dice.among(1, 3) } else { narrow };
+            let duration = if equal { same } else { self.dice.among(1, longest) };
+            self.place(capacity, duration);
+        }
+    }
+
+    /// Some places off the ring, each a way round one or more of its links or reached and left
+    /// at one place of it; and some links across the ring.
+    fn byways(&mut self, ring: &[usize]) {
+        let n = ring.len();
+        let first = self.size();
+        let off = self.dice.below(5);
+        self.ring_places(off);
+        for place in first..first + off {
+            let at = self.dice.below(n);
+            let far = self.dice.pick(&[0, 1, 1, 2, 3]);
+            self.new_link(ring[at], place);
+            self.new_link(place, ring[(at + far) % n]);
+        }
+        for _ in 0..self.dice.pick(&[0, 0, 1, 3]) {
+            let (from, to) = (self.dice.below(self.size()), self.dice.below(self.size()));
+            self.new_link(from, to);
+            self.new_link(to, from);
+        }
+    }
+
+    /// A run over so many links of the ring from each of its places, each ready to leave the
+    /// first at the second given, booked in some order; at times one place sends none.
+    fn wave(&mut self, ring: &[usize], t: usize, far: usize) {
+        let n = ring.len();
+        let idle = if self.dice.chance(40) { self.dice.below(n) } else { n };
+        for at in self.dice.shuffled(n) {
+            let duration = self.desk.map.duration(ring[at]) as usize;
+            if at != idle && duration <= t {
+                self.book(ring[at], ring[(at + far) % n], t - duration);
+            }
+        }
+    }
+
+    /// Whether one wagon more can be at the place from one second to another.
+    fn has_room(&self, place: usize, from: u32, to: u32) -> bool {
+        let stays: Vec<&barn::Row> = self.desk.book.rows.iter().filter(|row| row.place == place).collect();
+        let load = |t: u32| stays.iter().filter(|row| row.entry <= t && t < row.exit).count();
+        (from..to).all(|t| load(t) < self.desk.map.places[place].capacity as usize)
+    }
+
+    /// Every link on which a crossing would close a ring with booked crossings, and how many
+    /// places the ring has: second, from, to and number. A wagon can be at `from` before.
+    fn barred(&self) -> Vec<(u32, usize, usize, usize)> {
+        let mut found = Vec::new();
+        for (&t, met) in &barn::crossings(&self.desk.book.rows) {
+            for &(from, to) in &self.desk.map.links {
+                let since = t.saturating_sub(self.desk.map.duration(from));
+                if barn::led_to(met, to, barn::MOST_PLACES).has(from) && self.has_room(from, since, t) {
+                    let steps = (1..).find(|&steps| barn::led_to(met, to, steps).has(from)).expect("it is led to");
+                    found.push((t, from, to, steps + 1));
+                }
+            }
+        }
+        found
+    }
+
+    /// Asks for a run that would close a ring in the very second, or nearly so.
+    fn closing(&mut self) {
+        let mut found = self.barred();
+        if found.is_empty() {
+            return;
+        }
+        if self.dice.chance(60) {
+            let most = found.iter().map(|ring| ring.3).max().expect("a ring");
+            found.retain(|ring| ring.3 == most);
+        }
+        let (t, from, to, _) = self.dice.pick(&found);
+        let mut start = from;
+        let mut before = self.desk.map.duration(from);
+        // The run may begin some places before, so as to come to the crossing on its way.
+        while self.dice.chance(30) {
+            let links: Vec<(usize, usize)> = self.desk.map.links.iter().filter(|link| link.1 == start).copied().collect();
+            if links.is_empty() {
+                break;
+            }
+            start = self.dice.pick(&links).0;
+            before += self.desk.map.duration(start);
+        }
+        before += self.dice.pick(&[0, 0, 0, 0, 1, 2, 5]);
+        let destination = if self.dice.chance(60) { to } else { self.some_place() };
+        if before > t {
+            return;
+        }
+        let second = (t - before) as usize;
+        self.plan(start, destination, second);
+        if self.dice.chance(50) {
+            self.book(start, destination, second);
+        }
+    }
+
+    /// Waves on the rings, runs that would close one, other traffic between them, and a walk over
+    /// the pages at the end.
+    fn waves(&mut self, rings: &[Vec<usize>], count: usize) {
+        let longest = self.desk.map.places.iter().map(|place| place.duration).max().unwrap_or(1) as usize;
+        let late = self.dice.chance(15);
+        let mut t = if late { DAY as usize - self.dice.among(1, 3 * longest) } else { longest + self.dice.below(8) };
+        for _ in 0..count {
+            let ring = &rings[self.dice.below(rings.len())];
+            // Not so far that the wave alone fills the book.
+            let farthest = (ring.len() - 1).min(500 / ring.len());
+            let far = if self.dice.chance(60) { 1 } else { self.dice.among(1, farthest) };
+            self.wave(ring, t, far);
+            for _ in 0..self.dice.among(1, 4) {
+                self.closing();
+            }
+            let frames = self.dice.among(2, 8);
+            self.traffic(frames, t.saturating_sub(2 * longest), t + longest);
+            if late {
+                t -= self.dice.among(0, longest);
+            } else {
+                t += self.dice.pick(&[0, 1, longest, longest, 2 * longest, 4 * longest]);
+            }
+        }
+        let pages = self.dice.among(6, 20);
+        self.stroll(pages, t.saturating_sub(4 * longest), t);
+        self.lose_cursor();
+    }
+
+    /// Pages with the run of the last row shown cancelled between them.
+    fn lose_cursor(&mut self) {
+        for _ in 0..3 {
+            self.step();
+            self.cancel(self.cursor.2 as usize);
+            self.step();
+        }
+    }
+
+    /// One ring road of up to twelve places, with some places beside it.
+    fn ring(&mut self) {
+        let n = self.dice.pick(&[3, 3, 4, 4, 5, 5, 6, 7, 8, 9, 10, 11, 12]);
+        self.ring_places(n);
+        let ring = self.dice.shuffled(n);
+        let both = self.dice.pick(&[0, 0, 30, 100]);
+        self.ring_road(&ring, both);
+        self.byways(&ring);
+        let count = self.dice.among(2, 7);
+        self.waves(&[ring], count);
+    }
+
+    /// Ring roads laid through a small map: one through all of its places, one through some.
+    fn crossed(&mut self) {
+        self.small_map(false);
+        while self.size() < 3 {
+            self.place(1, 2);
+        }
+        let order = self.dice.shuffled(self.size());
+        let some = order[..self.dice.among(3, order.len())].to_vec();
+        self.ring_road(&order, 0);
+        self.ring_road(&some, 0);
+        let count = self.dice.among(2, 6);
+        self.waves(&[order, some], count);
+        let frames = self.dice.among(30, 70);
+        self.traffic(frames, 0, 60);
+    }
+
+    /// Two ring roads that share a place or an alley, and the ring round both where the alley
+    /// can be driven both ways.
+    fn rings(&mut self) {
+        let shared = self.dice.pick(&[1, 1, 2, 3]);
+        let (one, other) = (self.dice.among(2, 6), self.dice.among(2, 6));
+        let n = shared + one + other;
+        self.ring_places(n);
+        let order = self.dice.shuffled(n);
+        let alley = &order[..shared];
+        let first: Vec<usize> = [alley, &order[shared..shared + one]].concat();
+        let second: Vec<usize> = [alley, &order[shared + one..]].concat();
+        let both = self.dice.pick(&[0, 0, 40, 100]);
+        self.ring_road(&first, both);
+        self.ring_road(&second, both);
+        self.byways(&first);
+        let count = self.dice.among(3, 8);
+        self.waves(&[first, second], count);
+    }
+
+    /// Durations of one beat, at some places of two, and wagons that set out from every place by
+    /// the beat, most of them to the next place, so that nearly all crossings fall into a few
+    /// seconds and make chains and rings of every length.
+    fn clock(&mut self) {
+        let n = self.dice.among(3, 12);
+        let beat = self.dice.among(1, 12);
+        let most = self.dice.pick(&[1, 2, 3]);
+        let slow = self.dice.pick(&[0, 0, 30]);
+        for _ in 0..n {
+            let capacity = self.dice.among(1, most);
+            let duration = if self.dice.chance(slow) { 2 * beat } else { beat };
+            self.place(capacity, duration);
+        }
+        let ring = self.dice.shuffled(n);
+        self.ring_road(&ring, 0);
+        for _ in 0..self.dice.among(0, n) {
+            let (from, to) = (self.dice.below(n), self.dice.below(n));
+            self.new_link(from, to);
+            if self.dice.chance(30) {
+                self.new_link(to, from);
+            }
+        }
+        let mut second = 0;
+        for _ in 0..self.dice.among(2, 4) {
+            for start in self.dice.shuffled(n) {
+                for _ in 0..self.dice.among(0, most) {
+                    let near: Vec<(usize, usize)> =
+                        self.desk.map.links.iter().filter(|link| link.0 == start).copied().collect();
+                    let destination = if self.dice.chance(20) { self.some_place() } else { self.dice.pick(&near).1 };
+                    let late = self.dice.pick(&[0, 0, 0, 0, 0, 1]);
+                    self.book(start, destination, second + late);
+                }
+            }
+            for _ in 0..self.dice.among(2, 5) {
+                self.closing();
+            }
+            let frames = self.dice.among(2, 6);
+            self.traffic(frames, second, second + beat);
+            second += beat * self.dice.pick(&[1, 2, 2, 3]);
+        }
+        let pages = self.dice.among(6, 20);
+        self.stroll(pages, 0, second);
+        self.lose_cursor();
+    }
+
+    /// A ring road of dozens of places up to all that a map may have.
+    fn great(&mut self) {
+        let n = self.dice.pick(&[13, 20, 33, 64, 65, 100, 128, 129, 255, 256]);
+        self.ring_places(n);
+        let ring = self.dice.shuffled(n);
+        let both = self.dice.pick(&[0, 0, 10]);
+        self.ring_road(&ring, both);
+        for _ in 0..self.dice.below(4) {
+            let (from, to) = (self.dice.below(n), self.dice.below(n));
+            self.new_link(from, to);
+        }
+        let count = (500 / n).min(3);
+        self.waves(&[ring], count);
+        self.page(64, (n / 2, 0, 0));
+    }
 }
 
 fn usage() -> ! {
-    eprintln!("usage: yards SEED [contended|alley|ties|evening|day|walk|damaged|badmap|wide|full]");
+    eprintln!("usage: yards SEED [contended|alley|ties|evening|day|walk|damaged|badmap|wide|full|
+                         ring|rings|crossed|clock|great]");
     exit(2)
 }
 
@@ -511,7 +781,7 @@ fn main() -> io::Result<()> {
         usage();
     }
     let seed: u64 = words[0].parse().unwrap_or_else(|_| usage());
-    let kind = if words.len() == 2 { words[1].as_str() } else { KINDS[(seed % 20) as usize] };
+    let kind = if words.len() == 2 { words[1].as_str() } else { KINDS[(seed % KINDS.len() as u64) as usize] };
     let mut yard = Yard { dice: Dice::new(seed), desk: Desk::new(None), written: Vec::new(), cursor: (0, 0, 0) };
     match kind {
         "contended" => yard.contended(),
@@ -524,6 +794,11 @@ fn main() -> io::Result<()> {
         "badmap" => yard.badmap(),
         "wide" => yard.wide(),
         "full" => yard.full(),
+        "ring" => yard.ring(),
+        "rings" => yard.rings(),
+        "crossed" => yard.crossed(),
+        "clock" => yard.clock(),
+        "great" => yard.great(),
         _ => usage(),
     }
     io::stdout().lock().write_all(&yard.written)
