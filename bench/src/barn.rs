@@ -42,13 +42,16 @@ pub fn push(bytes: &mut Vec<u8>, number: u32, width: usize) {
 /// The words of a bit for each place.
 pub const WORDS: usize = MOST_PLACES / 64;
 
+/// Some places, a bit each.
+pub type Places = [u64; WORDS];
+
 /// A map, filled by `read`.
 pub struct Map {
     size: usize,
     capacities: [u8; MOST_PLACES],
     durations: [u16; MOST_PLACES],
     /// Bit q of `linked[p]`: there is a link from p to q, or p is q.
-    linked: [[u64; WORDS]; MOST_PLACES],
+    linked: [Places; MOST_PLACES],
 }
 
 impl Map {
@@ -112,7 +115,7 @@ impl Map {
     }
 
     /// The places that links out of this one lead to, a bit each.
-    pub fn onward(&self, place: u8) -> [u64; WORDS] {
+    pub fn onward(&self, place: u8) -> Places {
         let mut onward = self.linked[place as usize];
         onward[place as usize / 64] ^= 1 << (place % 64);
         onward
@@ -124,7 +127,7 @@ impl Map {
     }
 }
 
-/// A row as a key and a tail word, and the place that its wagon came from.
+/// A row as a key and a tail word, the place that its wagon came from, and what is known of the wagons behind.
 #[derive(Clone, Copy)]
 pub struct Row {
     /// Place, entry and ticket: the order of keys.
@@ -133,17 +136,33 @@ pub struct Row {
     pub tail: u32,
     /// The place of the run's row before; the row's own place on a run's first row.
     pub came: u8,
+    /// The number of the run's row before with `BEFORE`, where it is known. On the first of the rows that enter a place at one
+    /// second the number of the set of its origins replaces it, once that is known.
+    behind: u16,
 }
+
+const BEFORE: u16 = 1 << 15;
+/// Neither is known.
+const UNKNOWN: u16 = u16::MAX;
+/// The set of origins is being gathered.
+const GATHERING: u16 = u16::MAX - 1;
+/// The number of the empty set.
+const EMPTY: u16 = 0;
 
 impl Row {
     pub fn new(place: u8, entry: u32, ticket: u32, exit: u32, next: u8) -> Row {
-        Row { key: key(place as u32, entry, ticket), tail: exit << 8 | next as u32, came: place }
+        Row { key: key(place as u32, entry, ticket), tail: exit << 8 | next as u32, came: place, behind: UNKNOWN }
+    }
+
+    /// The row with the place that its wagon came from.
+    pub fn coming(self, came: u8) -> Row {
+        Row { came, ..self }
     }
 
     fn unpacked(at: &[u8; PACKED_ROW]) -> Row {
         let [start @ .., _, _, _] = at;
         let [_, _, _, _, _, _, _, end @ ..] = at;
-        Row { key: u64::from_be_bytes(*start) >> 8, tail: u32::from_be_bytes(*end), came: at[0] }
+        Row { key: u64::from_be_bytes(*start) >> 8, tail: u32::from_be_bytes(*end), came: at[0], behind: UNKNOWN }
     }
 
     pub fn packed(&self) -> [u8; PACKED_ROW] {
@@ -195,42 +214,56 @@ pub fn key(place: u32, entry: u32, ticket: u32) -> u64 {
     (place as u64) << 48 | (entry as u64) << 24 | ticket as u64
 }
 
-/// The crossings of a book as bits by hash: a bit that isn't set says for certain that there is no such crossing.
+/// The crossings of a book as bits by hash of their seconds. Bits that aren't set say for certain that no crossing leads into
+/// a place, or that none leads out of it, at a second.
 struct Crossed {
-    words: [u64; MOST_ROWS],
+    /// For the seconds of one hash: the places entered and the places left, a bit each, which the second turns.
+    pairs: [[u64; 2]; MOST_ROWS / 2],
     shift: u32,
 }
 
 impl Crossed {
     const fn new() -> Crossed {
-        Crossed { words: [0; MOST_ROWS], shift: 27 }
+        Crossed { pairs: [[0; 2]; MOST_ROWS / 2], shift: 31 }
     }
 
     /// Empty, with 64 bits and more for each of so many rows.
     fn clear(&mut self, rows: usize) {
-        let words = rows.next_power_of_two();
-        self.words[..words].fill(0);
-        self.shift = 27 - words.trailing_zeros();
+        let pairs = (rows.next_power_of_two() / 2).max(2);
+        self.pairs[..pairs].fill([0; 2]);
+        self.shift = 32 - pairs.trailing_zeros();
     }
 
-    /// The bit of a crossing; that of the opposing one is the other of the same pair.
-    fn bit(&self, from: u8, to: u8, second: u32) -> u32 {
-        let code = second + ((from as u32 + to as u32) << 17);
-        code.wrapping_mul(0x9E37_79B1) >> self.shift << 1 | (from < to) as u32
+    /// The pair of words for a second, and the bits of two places in both.
+    fn bits(&self, from: u8, to: u8, second: u32) -> (usize, u32, u32) {
+        let hash = second.wrapping_mul(0x9E37_79B1);
+        let bit = |place: u8| hash.wrapping_add(place as u32) % 64;
+        ((hash >> self.shift) as usize % (MOST_ROWS / 2), bit(from), bit(to))
     }
 
-    /// Adds a crossing; false where there is none that opposes it, for certain.
+    /// Adds a crossing; false where, for certain, those added before don't lead from its end to its start.
     fn add(&mut self, from: u8, to: u8, second: u32) -> bool {
-        let bit = self.bit(from, to, second);
-        let word = &mut self.words[bit as usize / 64 % MOST_ROWS];
-        *word |= 1 << (bit % 64);
-        *word >> ((bit ^ 1) % 64) & 1 == 1
+        let (pair, from, to) = self.bits(from, to, second);
+        let [entered, left] = &mut self.pairs[pair];
+        let closes = *entered >> from & *left >> to & 1 == 1;
+        *entered |= 1 << to;
+        *left |= 1 << from;
+        closes
     }
 
-    /// False where there is no such crossing, for certain.
-    fn perhaps(&self, from: u8, to: u8, second: u32) -> bool {
-        let bit = self.bit(from, to, second);
-        self.words[bit as usize / 64 % MOST_ROWS] >> (bit % 64) & 1 == 1
+    /// Adds a row's crossing, if it isn't its run's last.
+    fn add_row(&mut self, row: &Row) {
+        let (pair, from, to) = self.bits(row.place(), row.next(), row.exit());
+        let crosses = !row.is_last() as u64;
+        self.pairs[pair][0] |= crosses << to;
+        self.pairs[pair][1] |= crosses << from;
+    }
+
+    /// False where, for certain, no crossings lead from the end of this one to its start.
+    fn perhaps_barred(&self, from: u8, to: u8, second: u32) -> bool {
+        let (pair, from, to) = self.bits(from, to, second);
+        let [entered, left] = self.pairs[pair];
+        entered >> from & 1 == 1 && left >> to & 1 == 1
     }
 }
 
@@ -249,6 +282,12 @@ pub struct Book {
     /// The rows of p are `rows[from[p]..from[p + 1]]`.
     from: [u16; MOST_PLACES + 1],
     crossed: Crossed,
+    /// The crossings that may close a ring.
+    closing: Vec<u16>,
+    /// Sets of origins by number, the empty one first.
+    sets: Vec<Places>,
+    /// The turn in which a row's crossing has been gone back over.
+    walked: [u16; MOST_ROWS],
     /// Rows by the hash of their keys: the last in each slot, and for each row the one before it in its slot.
     slots: [u16; SLOTS * MOST_ROWS],
     chain: [u16; MOST_ROWS],
@@ -268,6 +307,9 @@ impl Book {
             spare: Vec::new(),
             from: [0; MOST_PLACES + 1],
             crossed: Crossed::new(),
+            closing: Vec::new(),
+            sets: Vec::new(),
+            walked: [NONE; MOST_ROWS],
             slots: [NONE; SLOTS * MOST_ROWS],
             chain: [NONE; MOST_ROWS],
             leaving: [0; MOST_ROWS],
@@ -297,7 +339,7 @@ impl Book {
     pub fn kept(&mut self, map: &Map, next_ticket: u32) -> bool {
         std::mem::swap(&mut self.rows, &mut self.spare);
         let rows = std::mem::take(&mut self.spare);
-        let kept = self.fill(map, next_ticket, rows.iter().map(|row| Row { came: row.place(), ..*row }));
+        let kept = self.fill(map, next_ticket, rows.iter().map(|row| Row { came: row.place(), behind: UNKNOWN, ..*row }));
         self.spare = rows;
         kept
     }
@@ -339,11 +381,17 @@ impl Book {
             sum += *from;
             *from = sum;
         }
-        self.crossed.clear(count);
-        self.runs_led(slot, leaving) && self.runs_ended(map, next_ticket, count - leaving)
+        self.clear_crossings();
+        self.runs_led(slot, leaving) && self.runs_ended(map, next_ticket, count - leaving) && self.ring_free()
     }
 
-    /// Whether each row but a run's last leads to a row of its own, and none goes against another.
+    fn clear_crossings(&mut self) {
+        self.crossed.clear(self.rows.len());
+        self.closing.clear();
+        self.sets.resize(1, [0; WORDS]);
+    }
+
+    /// Whether each row but a run's last leads to a row of its own. Notes a crossing of each ring, and few others.
     fn runs_led(&mut self, slot: impl Fn(u64) -> usize, leaving: usize) -> bool {
         for &i in &self.leaving[..leaving] {
             let row = self.rows[i as usize];
@@ -360,11 +408,98 @@ impl Book {
                 return false;
             }
             other.came = place;
-            if self.crossed.add(place, next, exit) && self.entered(place, exit).any(|row| row.came == next) {
-                return false;
+            other.behind = BEFORE | i;
+            // Rows are in order of place: of a ring's crossings the last one added leaves its highest place.
+            if self.crossed.add(place, next, exit) && next < place {
+                self.closing.push(i);
             }
         }
         true
+    }
+
+    /// Whether no crossing noted is part of a ring. Goes back from each, and no crossing twice.
+    fn ring_free(&mut self) -> bool {
+        if self.closing.is_empty() {
+            return true;
+        }
+        self.walked[..self.rows.len()].fill(NONE);
+        (0..self.closing.len()).all(|turn| !self.led_round(turn))
+    }
+
+    /// Whether a ring leads to a crossing noted, as far as crossings have not been gone back over in turns before.
+    fn led_round(&mut self, turn: usize) -> bool {
+        let mut at = self.closing[turn] as usize;
+        let second = self.rows[at].exit();
+        loop {
+            match self.walked[at] {
+                NONE => self.walked[at] = turn as u16,
+                other => return other == turn as u16,
+            }
+            let place = self.rows[at].place();
+            let Some(first) = self.first_after(at + 1, place, second) else {
+                return false;
+            };
+            if self.rows.get(first + 1).is_some_and(|row| row.key >> 24 == self.rows[first].key >> 24) {
+                return self.origins(Some(first)).is_none();
+            }
+            match self.rows[first].behind {
+                UNKNOWN => return false,
+                known if known & BEFORE == 0 => return false,
+                before => at = (before ^ BEFORE) as usize,
+            }
+        }
+    }
+
+    /// The places from which crossings of one second lead to the place of a row that is the first to enter it at that second,
+    /// one or more crossings in turn: the number of their set, or none where a ring leads to it. Each set is gathered once.
+    fn origins(&mut self, first: Option<usize>) -> Option<u16> {
+        let Some(first) = first else {
+            return Some(EMPTY);
+        };
+        let mut row = self.rows[first];
+        match row.behind {
+            GATHERING => return None,
+            known if known & BEFORE == 0 => return Some(known),
+            _ => self.rows[first].behind = GATHERING,
+        }
+        let (place, second, entered) = (row.place(), row.entry(), row.key >> 24);
+        let mut all = [0; WORDS];
+        let mut at = first;
+        while row.key >> 24 == entered {
+            let came = row.came;
+            if came != place {
+                let from = match row.behind {
+                    UNKNOWN => self.first_from(came, second),
+                    before => (before ^ BEFORE) as usize + 1,
+                };
+                let origins = self.origins(self.first_after(from, came, second))?;
+                for (word, more) in all.iter_mut().zip(self.sets[origins as usize]) {
+                    *word |= more;
+                }
+                all[came as usize / 64] |= 1 << (came % 64);
+            }
+            at += 1;
+            match self.rows.get(at) {
+                Some(&next) => row = next,
+                None => break,
+            }
+        }
+        let number = self.sets.len() as u16;
+        self.sets.push(all);
+        self.rows[first].behind = number;
+        Some(number)
+    }
+
+    /// The first row that enters a place at this second, from a row on that doesn't lie behind it; none where there is none.
+    fn first_after(&self, mut at: usize, place: u8, second: u32) -> Option<usize> {
+        let entered = key(place as u32, second, 0) >> 24;
+        loop {
+            match self.rows.get(at)?.key >> 24 {
+                other if other < entered => at += 1,
+                other if other == entered => return Some(at),
+                _ => return None,
+            }
+        }
     }
 
     /// Whether the last rows of runs have tickets of their own in range, stay no longer than they must and end within the day.
@@ -410,10 +545,11 @@ impl Book {
     /// The rows by place and the crossings, of rows in order.
     fn index(&mut self) {
         self.from.fill(0);
-        self.crossed.clear(self.rows.len());
-        for (i, row) in self.rows.iter().enumerate() {
+        self.clear_crossings();
+        for (i, row) in self.rows.iter_mut().enumerate() {
             self.from[row.place() as usize + 1] = i as u16 + 1;
-            self.crossed.add(row.place(), row.next(), row.exit());
+            row.behind = UNKNOWN;
+            self.crossed.add_row(row);
         }
         for place in 1..self.from.len() {
             self.from[place] = self.from[place].max(self.from[place - 1]);
@@ -429,17 +565,15 @@ impl Book {
         self.rows.partition_point(|row| row.key <= key)
     }
 
-    /// The rows of a place that were entered at this second.
-    fn entered(&self, place: u8, second: u32) -> impl Iterator<Item = &Row> {
-        let rows = self.at(place);
-        let first = rows.partition_point(|row| row.entry() < second);
-        rows[first..].iter().take_while(move |row| row.entry() == second)
+    /// The first row of a place that enters it at this second or later, or the place's end.
+    fn first_from(&self, place: u8, second: u32) -> usize {
+        self.from[place as usize] as usize + self.at(place).partition_point(|row| row.entry() < second)
     }
 
-    /// The least second from `least` to `most` at which no row goes from `to` to `from`, or one above `most`.
+    /// The least second from `least` to `most` at which no rows lead from `to` to `from`, or one above `most`.
     #[inline]
-    pub fn unbarred(&self, from: u8, to: u8, least: u32, most: u32) -> u32 {
-        if self.crossed.perhaps(to, from, least) {
+    pub fn unbarred(&mut self, from: u8, to: u8, least: u32, most: u32) -> u32 {
+        if self.crossed.perhaps_barred(from, to, least) {
             self.unbarred_later(from, to, least, most)
         } else {
             least
@@ -447,20 +581,41 @@ impl Book {
     }
 
     #[inline(never)]
-    fn unbarred_later(&self, from: u8, to: u8, least: u32, most: u32) -> u32 {
+    fn unbarred_later(&mut self, from: u8, to: u8, least: u32, most: u32) -> u32 {
+        let mut second = least;
+        loop {
+            second = self.unopposed(from, to, second, most);
+            if second > most || !self.leads_round(from, to, second) {
+                return second;
+            }
+            second += 1;
+        }
+    }
+
+    /// The least second from `least` to `most` at which no row goes from `to` to `from`, or one above `most`.
+    fn unopposed(&self, from: u8, to: u8, least: u32, most: u32) -> u32 {
         let rows = self.at(from);
         let mut rows = rows[rows.partition_point(|row| row.entry() < least)..].iter().peekable();
         let mut second = least;
         while second <= most {
-            let mut barred = false;
+            let mut opposed = false;
             while let Some(row) = rows.next_if(|row| row.entry() == second) {
-                barred |= row.came == to;
+                opposed |= row.came == to;
             }
-            if !barred {
+            if !opposed {
                 break;
             }
             second += 1;
         }
         second
+    }
+
+    /// Whether rows lead from `to` to `from` at this second.
+    fn leads_round(&mut self, from: u8, to: u8, second: u32) -> bool {
+        if !self.crossed.perhaps_barred(from, to, second) {
+            return false;
+        }
+        let first = self.first_after(self.first_from(from, second), from, second);
+        self.origins(first).is_some_and(|set| self.sets[set as usize][to as usize / 64] >> (to % 64) & 1 == 1)
     }
 }

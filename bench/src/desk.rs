@@ -104,7 +104,7 @@ impl Desk {
         if !ticket_left {
             return Err(TICKETS_OUT);
         }
-        self.search.chosen(&self.map, &self.book, start, destination, second).ok_or(NO_PLAN)
+        self.search.chosen(&self.map, &mut self.book, start, destination, second).ok_or(NO_PLAN)
     }
 
     fn plan(&mut self, start: u8, destination: u8, second: u32, out: &mut Vec<u8>) -> Result<(), u8> {

@@ -77,7 +77,7 @@ impl Search {
     }
 
     /// The chosen plan's rows in travel order with ticket 0, or none where no plan is permitted.
-    pub fn chosen(&mut self, map: &Map, book: &Book, start: u8, destination: u8, second: u32) -> Option<&[Row]> {
+    pub fn chosen(&mut self, map: &Map, book: &mut Book, start: u8, destination: u8, second: u32) -> Option<&[Row]> {
         let Span { from, stop } = self.spans[start as usize];
         let first = &mut self.windows[from as usize];
         if from == stop || first.start > second {
@@ -123,7 +123,7 @@ impl Search {
     /// Goes from a window to all those of a place that it enters sooner than any before, none later than `bound`, and says
     /// how soon.
     #[inline]
-    fn enter(&mut self, book: &Book, leaving: Leaving, to: u8, bound: u32) -> u32 {
+    fn enter(&mut self, book: &mut Book, leaving: Leaving, to: u8, bound: u32) -> u32 {
         let Leaving { here, place, soonest, end } = leaving;
         let end = end.min(bound);
         let span = &mut self.spans[to as usize];
@@ -181,7 +181,7 @@ fn trail(map: &Map, windows: &[Window], last: u16, run: &mut Vec<Row>) {
     loop {
         let before = windows.get(here.before as usize);
         let came = before.map_or(here.place, |window| window.place);
-        run.push(Row { came, ..Row::new(here.place, here.entry, 0, exit, next) });
+        run.push(Row::new(here.place, here.entry, 0, exit, next).coming(came));
         (next, exit) = (here.place, here.entry);
         match before {
             Some(window) => here = window,
