@@ -52,7 +52,8 @@
  *    0  LANEBOOK_DONE             x    x    done
  *    1  LANEBOOK_BAD_MAP          x    x    the map breaks a rule, or its length is not the one
  *                                           its counts give
- *    2  LANEBOOK_BAD_BOOK         x    x    the book is not well formed on this map, or its
+ *    2  LANEBOOK_BAD_BOOK         x    x    the book is not well formed on this map (its runs
+ *                                           overfill a place or close a ring, say), or its
  *                                           length is not the one its count gives
  *    3  LANEBOOK_NOT_A_PLACE      x         start or destination is not a place of the map
  *    4  LANEBOOK_OFF_DAY          x         the second is above 86,400
@@ -122,8 +123,10 @@ extern "C" {
 
 /*
  * The best run from start to destination that begins at the given second, beside the booked
- * runs: no place is ever above its capacity, no booked wagon is met head-on, and no permitted
- * run arrives sooner. Its stays are written in travel order with ticket 0.
+ * runs: no place is ever above its capacity, no ring is closed, and no permitted run arrives
+ * sooner. A ring is closed where the run goes from p to q and booked runs that go on in the same
+ * second lead from q to p: one of them (two wagons head-on), or several, each entering the place
+ * that the next one leaves. Its stays are written in travel order with ticket 0.
  * Of runs that arrive equally soon the same one is always given. A free window is a longest stretch
  * of a place's day in which one more wagon fits for the place's duration or longer. The run enters
  * each window on its way at the earliest second at which any permitted run could, its last one being
