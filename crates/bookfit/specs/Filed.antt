@@ -11,9 +11,8 @@ use Rattle.laws.specs.Order.{lt-or-ge, eq-or-ne}
 use Rattle.laws.specs.Lists.{at, zeros}
 use Rattle.rules.specs.Book.{Unbarred}
 use Rattle.flat.specs.Flat.{placeOf, exitOf, nextOf, rowsIn}
-use Rattle.lookup.specs.Crossings.{ByPlace}
 use Rattle.bookfit.specs.Each.{below-next}
-use Rattle.bookfit.specs.Ring.{Follows, Ringed, Listed, unringed-unbarred, falling-unringed, ringed-listed}
+use Rattle.bookfit.specs.Ring.{Follows, Ringed, Listed, unringed-unbarred, falling-unringed}
 
 -- what holds of all that is stored, and of x at i, holds once x is stored there
 pub set-all : (P : ℕ → ℕ → Type 0) (l : List ℕ) (i x : ℕ) → ((k : ℕ) → P k (at l k)) → P i x → (k : ℕ) → P k (at (set l i x) k)
@@ -79,7 +78,7 @@ filed-start K X L m n e = record {
   len-chain = length-replicate n 0 ∙ e;
 }
 
-module _ (K X : List ℕ) {n m : ℕ} {L : List ℕ} (A : Listed K X n n L m) where
+module _ (K X : List ℕ) {n m : ℕ} {L : List ℕ} (A : Listed (Ringed K X n) K X n L m) where
   pub filed-next : (c : ℕ) (H N : List ℕ) → n ≤ 1024 → Filed K X L m c H N → c < m → (i h : ℕ) → i ≡ at L c → h ≡ leaveSlot (placeOf (at K i)) (exitOf (at X i)) → h < 1024
       → Filed K X L m (c + 1) (set H h (i + 1)) (set N i (at H h))
   filed-next c H N top F lt i h e s b = record {
@@ -186,13 +185,13 @@ module _ (K X : List ℕ) (n : ℕ) (L H N R : List ℕ) where
   pub passed-next : (c i : ℕ) → i ≡ at L c → Passed K X n L H N R c → (Ringed K X n i → AboveAll K X H N R i) → Passed K X n L H N R (c + 1)
   passed-next c i e P f = record { above = below-next (λ j. Ringed K X n (at L j) → AboveAll K X H N R (at L j)) c (P .above) (subst (λ (x : ℕ). Ringed K X n x → AboveAll K X H N R x) e f) }
 
-  pub passed-unbarred : (m : ℕ) → ByPlace K X n → Listed K X n n L m → Filed K X L m m H N → Passed K X n L H N R m → Unbarred (rowsIn K X n)
-  passed-unbarred m B A F P = unringed-unbarred K X n (falling-unringed K X n (at R) falls)
+  pub passed-unbarred : (m : ℕ) → Listed (Ringed K X n) K X n L m → Filed K X L m m H N → Passed K X n L H N R m → Unbarred (rowsIn K X n)
+  passed-unbarred m A F P = unringed-unbarred K X n (falling-unringed K X n (at R) falls)
     where
       on : (k : ℕ) → Ringed K X n k → OnChain N k (at H (leaveSlot (placeOf (at K k)) (exitOf (at X k))))
-      on k G = let b = ringed-listed K X n B A k G in subst (λ (x : ℕ). OnChain N x (at H (leaveSlot (placeOf (at K x)) (exitOf (at X x))))) (b .2) (F .filed (b .0) (b .1))
+      on k G = let b = A .all k (G .within) G in subst (λ (x : ℕ). OnChain N x (at H (leaveSlot (placeOf (at K x)) (exitOf (at X x))))) (b .2) (F .filed (b .0) (b .1))
 
       falls : (i k : ℕ) → Ringed K X n i → Follows K X i k → Ringed K X n k → at R k < at R i
       falls i k G f Z =
-          let a = ringed-listed K X n B A i G in
+          let a = A .all i (G .within) G in
           subst (λ (x : ℕ). Ringed K X n x → AboveAll K X H N R x) (a .2) (P .above (a .0) (a .1)) G k (rw (f .from, f .when) at (on k Z)) f

@@ -1,48 +1,33 @@
--- The whole test of a book's arrays is the definition: where it is passed the rows are a well-formed book, and a well-formed
--- book passes it. That each ticket's rows are a whole plan is chains' law; the ranges follow from the fits, and the rows' order
--- is the order of the packed keys.
-use Prim.Native.Nat.{ℕ, _≤_, _<_}
-use mathlib.Core.Path.{_≡_}
-use mathlib.Core.Logic.{⊎-elim}
-use mathlib.Core.List.{List}
+-- What the tests of a book's arrays say of the rows that the arrays hold: ranges are the definition's, rows that fit, join and end once are whole plans, and the
+-- first row of the lowest ticket of which one does not is where the book is broken.
+use Prim.Native.Nat.{ℕ, _-_, _≤_, _<_}
+use mathlib.Core.Path.{_≡_, refl, sym, ap, subst, _∙_}
+use mathlib.Core.List.{List, [], List·Memᴰ}
 use native.Mathlib.Omega.{arith}
-use Rattle.laws.specs.Order.{eq-or-ne}
 use Rattle.laws.specs.Lists.{at}
 use Rattle.rules.specs.declared.Row.{Row}
+use Rattle.rules.specs.declared.Place.{Place}
 use Rattle.rules.specs.Limits.{rowLimit, ticketLimit}
 use Rattle.rules.specs.Map.{Yard, MapRules, linked}
-use Rattle.rules.specs.Rows.{load}
-use Rattle.rules.specs.Book.{Ranges, Unbarred, WellFormed}
-use Rattle.lanes.specs.Yards.{YardRules, yard-rules}
-use Rattle.flat.specs.Flat.{placesIn, linksIn, yardIn, Of, rowsIn, KeysRise}
-use Rattle.flat.specs.Laws.{rows-long, row-in, yard-of}
-use Rattle.lookup.specs.Order.{keys-rising, rising-keys}
+use Rattle.rules.specs.Rows.{rowAt, load}
+use Rattle.rules.specs.Book.{Whole, AllWhole, Room, Counted}
+use Rattle.rules.specs.Fault.{FirstBad, BrokenAt}
+use Rattle.rules.specs.FaultLaws.{Inherited, room-inherited}
+use Rattle.lanes.specs.Yards.{yard-rules}
+use Rattle.flat.specs.Flat.{placesIn, linksIn, yardIn, placeOf, ticketOf, Of, rowsIn, Packed, KeysRise}
+use Rattle.flat.specs.Laws.{places-long, place-in, rows-long, row-in, yard-of}
+use Rattle.lookup.specs.Crossings.{ByPlace}
+use Rattle.windows.specs.Places.{Given}
 use Rattle.chains.specs.Laws.{tested-whole, whole-tested}
-use Rattle.bookfit.specs.Join.{Joined, OneLast}
-use Rattle.bookfit.specs.Rows.{TicketsFit, RowFits, RowsFit}
-use Rattle.bookfit.specs.Bridge.{index-tested, tested-fits, tested-joined, tested-one-last}
+use Rattle.bookfit.specs.Keys.{next-parts}
+use Rattle.bookfit.specs.Least.{LowestRow}
+use Rattle.bookfit.specs.Rows.{AllInRange, RowFits}
+use Rattle.bookfit.specs.Bridge.{RunOk, index-tested, tested-index}
 
--- what is asked of the rows before their place's room is looked at
-pub record Sound (D : List ℕ) (n : ℕ) (F T : List ℕ) (k : ℕ) (K X : List ℕ) (count t : ℕ) : Type 0 where
-  pub few : count ≤ rowLimit
-  pub ticket-from : 1 ≤ t
-  pub ticket-to : t ≤ ticketLimit
-  pub rise : KeysRise K count
-  pub tickets : TicketsFit (at K) count t
-  pub fits : RowsFit n (at D) (linked (linksIn F T k)) (at K) (at X) count
-  pub joined : Joined (at K) (at X) count count
-  pub one-last : OneLast (at K) (at X) count
-
--- what the tests ask of the arrays
-pub record Tests (C D : List ℕ) (n : ℕ) (F T : List ℕ) (k : ℕ) (K X : List ℕ) (count t : ℕ) : Type 0 where
-  pub sound : Sound D n F T k K X count t
-  pub room : (p s : ℕ) → p < n → load (rowsIn K X count) p s ≤ at C p
-  pub exchange : Unbarred (rowsIn K X count)
-
--- ---- rows of the arrays' map, by the yard that they make
+-- ---- the arrays' map and the yard that they make
 
 module _ {Y : Yard} {C D : List ℕ} {n : ℕ} (O : Of Y C D n) where
-  pub fits-yard : {r : Row} → RowFits n (at D) (Y .link) r → RowFits (Y .places) (Y .dur) (Y .link) r
+  fits-yard : {r : Row} → RowFits n (at D) (Y .link) r → RowFits (Y .places) (Y .dur) (Y .link) r
   fits-yard {r} f =
       let d = O .durs (r .place) (f .on-map) in
       record {
@@ -53,7 +38,7 @@ module _ {Y : Yard} {C D : List ℕ} {n : ℕ} (O : Of Y C D n) where
         linked = f .linked;
       }
 
-  pub yard-fits : {r : Row} → RowFits (Y .places) (Y .dur) (Y .link) r → RowFits n (at D) (Y .link) r
+  yard-fits : {r : Row} → RowFits (Y .places) (Y .dur) (Y .link) r → RowFits n (at D) (Y .link) r
   yard-fits {r} f =
       let on : r .place < n = omega (arith, O .places, f .on-map) in
       let d = O .durs (r .place) on in
@@ -65,56 +50,124 @@ module _ {Y : Yard} {C D : List ℕ} {n : ℕ} (O : Of Y C D n) where
         linked = f .linked;
       }
 
--- where a row goes is on the map
-pub next-on : {Y : Yard} → YardRules Y → {r : Row} → RowFits (Y .places) (Y .dur) (Y .link) r → r .next < Y .places
-next-on {Y} R {r} f =
-    ⊎-elim (λ (e : r .next ≡ r .place). omega (arith, f .on-map)) (λ (g : r .next ≡ r .place → ⊥). R .to-on (r .place) (r .next) (f .linked g)) (eq-or-ne (r .next) (r .place))
+  module _ (K X : List ℕ) (count t : ℕ) where
+    pub ranges-counted : count ≤ rowLimit → 1 ≤ t → t ≤ ticketLimit → AllInRange n t (at K) (at X) count → Counted Y (rowsIn K X count) t
+    ranges-counted few from to R =
+        let e = O .places in
+        let l = rows-long K X count in
+        record {
+          few = omega arith;
+          ticket-from = from;
+          ticket-to = to;
+          ranges = λ i h.
+              let hi : i < count = omega arith in
+              let r = R .each i hi in
+              rw (row-in K X count i hi) (record {
+                place = omega (arith, r .1 .place);
+                next = omega (arith, r .1 .next);
+                entry = r .1 .entry;
+                exit = r .1 .exit;
+                ticket-from = r .0 .from;
+                ticket-to = r .0 .to;
+              });
+        }
 
-ranges-of : {Y : Yard} → YardRules Y → {t : ℕ} {r : Row} → RowFits (Y .places) (Y .dur) (Y .link) r → 1 ≤ r .ticket → r .ticket < t → Ranges Y t r
-ranges-of R f a b = record {
-  place = f .on-map;
-  next = next-on R f;
-  entry = omega (arith, f .lasts, f .in-day);
-  exit = f .in-day;
-  ticket-from = a;
-  ticket-to = b;
-}
+    pub counted-ranges : Counted Y (rowsIn K X count) t → AllInRange n t (at K) (at X) count
+    counted-ranges W =
+        let e = O .places in
+        let l = rows-long K X count in
+        record {
+          each = λ i h.
+              let r = rw (row-in K X count i h) at (W .ranges i (omega arith)) in
+              (record { from = r .ticket-from; to = r .ticket-to }, record { place = omega (arith, r .place); next = omega (arith, r .next); entry = r .entry; exit = r .exit });
+        }
 
-module _ (C D : List ℕ) (n : ℕ) (F T : List ℕ) (k : ℕ) (K X : List ℕ) (count t : ℕ) (M : MapRules (placesIn C D n) (linksIn F T k)) where
-  pub tests-formed : Tests C D n F T k K X count t → WellFormed (yardIn C D n F T k) (rowsIn K X count) t
-  tests-formed S =
-      let R = yard-rules M in
-      let O = yard-of C D F T n k M in
-      let c = rows-long K X count in
-      let A : RowsFit (yardIn C D n F T k .places) (yardIn C D n F T k .dur) (yardIn C D n F T k .link) (at K) (at X) count = record { each = λ i h. fits-yard O (S .sound .fits .each i h) } in
-      record {
-        few = omega (arith, S .sound .few);
-        rising = keys-rising K X count (S .sound .rise);
-        ticket-from = S .sound .ticket-from;
-        ticket-to = S .sound .ticket-to;
-        ranges = λ i h. let hi : i < count = omega arith in rw (row-in K X count i hi) (ranges-of R (A .each i hi) (S .sound .tickets .each i hi .from) (S .sound .tickets .each i hi .to));
-        whole = tested-whole R (index-tested K X count (yardIn C D n F T k) A (S .sound .joined) (S .sound .one-last));
-        room = λ p s h. let hp : p < n = omega (arith, O .places) in omega (arith, S .room p s hp, O .caps p hp);
-        exchange = S .exchange;
-      }
+-- ---- room, by the capacities in the array
 
-  pub formed-tests : WellFormed (yardIn C D n F T k) (rowsIn K X count) t → Tests C D n F T k K X count t
-  formed-tests W =
-      let O = yard-of C D F T n k M in
-      let c = rows-long K X count in
-      let R = rising-keys K X count (W .rising) in
-      let tested = whole-tested (yard-rules M) (W .whole) in
-      record {
-        sound = record {
-          few = omega (arith, W .few);
-          ticket-from = W .ticket-from;
-          ticket-to = W .ticket-to;
-          rise = R;
-          tickets = record { each = λ i h. let r = rw (row-in K X count i h) at (W .ranges i (omega arith)) in record { from = r .ticket-from; to = r .ticket-to } };
-          fits = record { each = λ i h. yard-fits O (tested-fits K X count (yardIn C D n F T k) R tested .each i h) };
-          joined = tested-joined K X count (yardIn C D n F T k) R tested;
-          one-last = tested-one-last K X count (yardIn C D n F T k) R tested;
-        };
-        room = λ p s h. omega (arith, W .room p s (omega (arith, O .places)), O .caps p h);
-        exchange = W .exchange;
-      }
+abbrev pub Capped : ℕ → List ℕ → List Row → Type 0
+Capped n C rows = (p t : ℕ) → p < n → load rows p t ≤ at C p
+
+pub capped-inherited : (n : ℕ) (C : List ℕ) → Inherited (Capped n C)
+capped-inherited n C = room-inherited (record { places = n; cap = at C; dur = at C; link = linked [] })
+
+module _ {Y : Yard} {C D : List ℕ} {n : ℕ} (O : Of Y C D n) where
+  pub capped-room : (rows : List Row) → Capped n C rows → Room Y rows
+  capped-room rows f p t h = let hp : p < n = omega (arith, O .places) in omega (arith, f p t hp, O .caps p hp)
+
+  room-capped : (rows : List Row) → Room Y rows → Capped n C rows
+  room-capped rows f p t h = omega (arith, f p t (omega (arith, O .places)), O .caps p h)
+
+  pub capped-first : {rows : List Row} {i : ℕ} → FirstBad (Capped n C) rows i → FirstBad (Room Y) rows i
+  capped-first F = record { from = F .from; good = capped-room _ (F .good); bad = λ q. F .bad (room-capped _ q) }
+
+-- ---- runs
+
+module _ (C D : List ℕ) (n : ℕ) (F T : List ℕ) (k : ℕ) (K X : List ℕ) (count t : ℕ) (M : MapRules (placesIn C D n) (linksIn F T k))
+    (A : AllInRange n t (at K) (at X) count) (U : KeysRise K count) where
+  abbrev Y : Yard
+  Y = yardIn C D n F T k
+
+  abbrev rows : List Row
+  rows = rowsIn K X count
+
+  abbrev Ok : ℕ → Type 0
+  Ok i = RunOk n (at D) (linked (linksIn F T k)) (at K) (at X) count i
+
+  whole-at : (j : ℕ) → ((i : ℕ) → i < count → ticketOf (at K i) ≡ j → Ok i) → (r : Row) → List·Memᴰ r rows → r .ticket ≡ j → Whole Y rows j
+  whole-at j f r m e =
+      tested-whole (yard-rules M) (index-tested K X count Y j (λ i h q. let o = f i h q in (fits-yard (yard-of C D F T n k M) (o .0), o .1))) r m e
+
+  at-whole : (j : ℕ) → Whole Y rows j → (i : ℕ) → i < count → ticketOf (at K i) ≡ j → Ok i
+  at-whole j W i h e =
+      let o = tested-index K X count Y U (λ i h. omega (arith, A .each i h .1 .exit)) (whole-tested (yard-rules M) W) i h e in
+      (yard-fits (yard-of C D F T n k M) (o .0), o .1)
+
+  pub runs-whole : ((i : ℕ) → i < count → Ok i) → AllWhole Y rows
+  runs-whole f r m = whole-at (r .ticket) (λ i h _. f i h) r m refl
+
+  pub row-broken : {r : ℕ} → LowestRow Ok K count r → 0 < r → BrokenAt Y rows r
+  row-broken {r} L h = record {
+    from = h;
+    to = omega (arith, rows-long K X count, L .bound);
+    broken = λ W. let x = L .fails h in x .3 (at-whole (ticketOf (at K (r - 1))) (subst (Whole Y rows) here W) (x .0) (x .1) (x .2));
+    lower = λ s m l. whole-at (s .ticket) (λ i g e. L .lower h i g (omega (arith, here))) s m refl;
+    first = λ j g e. L .first h j g (sym (ap (λ (x : Row). x .ticket) (row-in K X count j (omega (arith, L .bound)))) ∙ e ∙ here);
+  }
+    where
+      here : rowAt rows (r - 1) .ticket ≡ ticketOf (at K (r - 1))
+      here = ap (λ (x : Row). x .ticket) (row-in K X count (r - 1) (omega (arith, L .bound)))
+
+  module _ (few : count ≤ rowLimit) (O : (i : ℕ) → i < count → Ok i) where
+    -- what finding the windows asks for
+    pub runs-given : Given n count C D K X
+    runs-given =
+        let l = places-long C D n in
+        record {
+          places = omega (arith, M .few);
+          rows = few;
+          cap-from = λ p h. omega (arith, M .cap-from p (omega arith), ap (λ (x : Place). x .capacity) (place-in C D n p h));
+          cap-to = λ p h. omega (arith, M .cap-to p (omega arith), ap (λ (x : Place). x .capacity) (place-in C D n p h));
+          dur-from = λ p h. omega (arith, M .dur-from p (omega arith), ap (λ (x : Place). x .duration) (place-in C D n p h));
+          dur-to = λ p h. omega (arith, M .dur-to p (omega arith), ap (λ (x : Place). x .duration) (place-in C D n p h));
+          rising = U;
+          on-map = λ i h. O i h .0 .on-map;
+          lasts = λ i h.
+              let f = O i h .0 in
+              let p = placeOf (at K i) in
+              let o = f .on-map in
+              omega (arith, f .lasts, M .dur-from p (omega arith), ap (λ (x : Place). x .duration) (place-in C D n p o));
+          in-day = λ i h. O i h .0 .in-day;
+        }
+
+    -- what the exchange test asks for: a row that goes on has its successor, which enters where and when it leaves
+    pub runs-by-place : Packed K → ByPlace K X count
+    runs-by-place Q = record {
+      timed = record {
+        keyed = record { few = few; small = λ i _. Q .keys i; rises = U };
+        lasts = λ i h. runs-given .lasts i h;
+      };
+      goes-in = λ i h g.
+          let f = O i h .1 .0 .found g in
+          let q = next-parts (at K i) (at X i) (at K (f .at)) (omega (arith, O i h .0 .in-day)) (f .is) in
+          record { row = f .at; within = f .within; place = q .0; entry = q .1 };
+    }

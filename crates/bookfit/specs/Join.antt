@@ -1,6 +1,6 @@
--- How the rows of tickets join, by index over keys K and tails X: each row that is not last has its successor
--- among the rows, no two rows the same one, and no two last rows have the same ticket.
-use Prim.Native.Nat.{ℕ, _≤_, _<_}
+-- How the rows of tickets join, by index over keys K and tails X: a row that is not last has its successor
+-- among the rows, which no row before it has, and no last row comes after another of its ticket.
+use Prim.Native.Nat.{ℕ, _<_}
 use mathlib.Core.Path.{_≡_}
 use Rattle.flat.specs.Flat.{placeOf, ticketOf, keyOf, exitOf, nextOf}
 
@@ -17,14 +17,10 @@ pub record Found (K : ℕ → ℕ) (n k : ℕ) : Type 0 where
   pub within : at < n
   pub is : K at ≡ k
 
--- each of the first c rows that goes on has its successor among n rows, and no two the same
-pub record Joined (K X : ℕ → ℕ) (n c : ℕ) : Type 0 where
-  pub found : (i : ℕ) → i < c → (IsLast (K i) (X i) → ⊥) → Found K n (nextKey (K i) (X i))
-  pub once : (i j : ℕ) → i < j → j < c → (IsLast (K i) (X i) → ⊥) → (IsLast (K j) (X j) → ⊥) → nextKey (K i) (X i) ≡ nextKey (K j) (X j) → ⊥
-
--- no two last rows have the same ticket
-pub record OneLast (K X : ℕ → ℕ) (n : ℕ) : Type 0 where
-  pub once : (i j : ℕ) → i < j → j < n → IsLast (K i) (X i) → IsLast (K j) (X j) → ticketOf (K i) ≡ ticketOf (K j) → ⊥
+-- row i, where it goes on, has its successor among n rows, and no row before it the same one
+pub record Joins (K X : ℕ → ℕ) (n i : ℕ) : Type 0 where
+  pub found : (IsLast (K i) (X i) → ⊥) → Found K n (nextKey (K i) (X i))
+  pub alone : (IsLast (K i) (X i) → ⊥) → (j : ℕ) → j < i → (IsLast (K j) (X j) → ⊥) → nextKey (K j) (X j) ≡ nextKey (K i) (X i) → ⊥
 
 -- a last row of ticket t is below c
 pub record LastBelow (K X : ℕ → ℕ) (c t : ℕ) : Type 0 where
@@ -37,3 +33,7 @@ pub record LastBelow (K X : ℕ → ℕ) (c t : ℕ) : Type 0 where
 pub record Clash (K X : ℕ → ℕ) (c : ℕ) : Type 0 where
   pub last : IsLast (K c) (X c)
   pub earlier : LastBelow K X c (ticketOf (K c))
+
+-- row i is not a second last row of its ticket
+abbrev pub EndsOnce : (K X : ℕ → ℕ) (i : ℕ) → Type 0
+EndsOnce K X i = Clash K X i → ⊥

@@ -1,7 +1,9 @@
 pub mod Each
 pub mod Join
+pub mod Least
 pub mod Marks
 pub mod Rows
+pub mod Prefix
 pub mod Ring
 pub mod Filed
 pub mod Keys

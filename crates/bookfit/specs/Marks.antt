@@ -1,5 +1,5 @@
--- The loops over a book's rows: the successors found so far with the marks of those taken,
--- and the last rows met so far with the marks of their tickets' slots. Each holds at first, is kept by a turn and gives the answer.
+-- The loops over a book's rows: the successors of the rows met so far are marked, and so are the slots of the tickets whose last row was met. What a row is found
+-- to be, and the marks after it.
 use Prim.Native.Nat.{ℕ, _+_, _-_, _%_, _≤_, _<_}
 use mathlib.Core.Path.{_≡_, refl, sym, ap, subst, _∙_}
 use mathlib.Core.Logic.{⊎-elim}
@@ -12,72 +12,18 @@ use lib.Dec.{eqb}
 use borrow.Author.Tests.{eq-eqb, eqb-true}
 use Rattle.laws.specs.Order.{lt-or-ge, eq-or-ne}
 use Rattle.laws.specs.Tests.{not-both}
-use Rattle.bookfit.specs.Each.{below-next}
 use Rattle.flat.specs.Flat.{placeOf, ticketOf, nextOf}
 use Rattle.lookup.specs.Keys.{Spot}
-use Rattle.bookfit.specs.Join.{nextKey, IsLast, Found, Joined, OneLast, LastBelow, Clash}
+use Rattle.bookfit.specs.Each.{below-next}
+use Rattle.bookfit.specs.Join.{nextKey, IsLast, Joins, LastBelow, EndsOnce}
+use Rattle.bookfit.specs.Least.{IsLeast, Lowest, lowest-start, lowest-keep, lowest-lower}
 
-module _ (K X : ℕ → ℕ) (n : ℕ) where
-  abbrev pub goes : ℕ → Type 0
-  goes i = IsLast (K i) (X i) → ⊥
+-- a mark set, and the marks that stood
+mark-set : (tl : List Bool) (z x : ℕ) → z < length tl → x ≡ z → getD (set tl z true) x false ≡ true
+mark-set tl z x h e = ap (λ (u : ℕ). getD (set tl z true) u false) e ∙ getD-set-same tl z true false h
 
-  abbrev pub on : ℕ → ℕ
-  on i = nextKey (K i) (X i)
-
-  pub record Mark (c j : ℕ) : Type 0 where
-    pub row : ℕ
-    pub below : row < c
-    pub goes-on : IsLast (K row) (X row) → ⊥
-    pub to : K j ≡ nextKey (K row) (X row)
-
-  pub record Marked (tk : ℕ → Bool) (c : ℕ) : Type 0 where
-    pub so-far : Joined K X n c
-    pub marks : (i : ℕ) → i < c → (IsLast (K i) (X i) → ⊥) → (j : ℕ) → j < n → K j ≡ nextKey (K i) (X i) → tk j ≡ true
-    pub marked : (j : ℕ) → j < n → tk j ≡ true → Mark c j
-
-  pub marks-start : (tk : ℕ → Bool) → ((j : ℕ) → j < n → tk j ≡ false) → Marked tk 0
-  marks-start tk f = record {
-    so-far = record { found = λ i h. absurd (omega arith); once = λ i j h k. absurd (omega arith) };
-    marks = λ i h. absurd (omega arith);
-    marked = λ j h t. absurd (not-both t (f j h));
-  }
-
-  pub marks-skip : (tk : ℕ → Bool) (c : ℕ) → Marked tk c → IsLast (K c) (X c) → Marked tk (c + 1)
-  marks-skip tk c M e = record {
-    so-far = record {
-      found = below-next (λ i. goes i → Found K n (on i)) c (M .so-far .found) (λ g. absurd (g e));
-      once = λ i j h k a b q. below-next (λ j. i < j → goes j → on i ≡ on j → ⊥) c (λ j k h b q. M .so-far .once i j h k a b q) (λ h g. absurd (g e)) j k h b q;
-    };
-    marks = below-next (λ i. goes i → (j : ℕ) → j < n → K j ≡ on i → tk j ≡ true) c (M .marks) (λ g. absurd (g e));
-    marked = λ j h t. let m = M .marked j h t in record { row = m .row; below = omega (arith, m .below); goes-on = m .goes-on; to = m .to };
-  }
-
-  module _ (tk : ℕ → Bool) (c : ℕ) (M : Marked tk c) (g : IsLast (K c) (X c) → ⊥) (j : ℕ) (s : Spot K n (nextKey (K c) (X c)) j) where
-    pub marks-take : ((a b : ℕ) → a < b → b < n → K a < K b) → j < n → tk j ≡ false → (tk′ : ℕ → Bool) → tk′ j ≡ true → ((i : ℕ) → (i ≡ j → ⊥) → tk′ i ≡ tk i) → Marked tk′ (c + 1)
-    marks-take mono jn free tk′ same other = record {
-      so-far = record {
-        found = below-next (λ i. goes i → Found K n (on i)) c (M .so-far .found) (λ _. record { at = j; within = jn; is = s .here jn });
-        once = λ i b h k a d q. below-next (λ b. i < b → goes b → on i ≡ on b → ⊥) c (λ b k h d q. M .so-far .once i b h k a d q) (λ h d q. not-both (M .marks i h a j jn (s .here jn ∙ sym q)) free) b k h d q;
-      };
-      marks = below-next (λ i. goes i → (b : ℕ) → b < n → K b ≡ on i → tk′ b ≡ true) c
-          (λ i h a b k q. ⊎-elim (λ (e : b ≡ j). ap tk′ e ∙ same) (λ (ne : b ≡ j → ⊥). other b ne ∙ M .marks i h a b k q) (eq-or-ne b j))
-          (λ a b k q. ap tk′ (one b k (q ∙ sym (s .here jn))) ∙ same);
-      marked = λ b h t. ⊎-elim (λ (e : b ≡ j). record { row = c; below = omega arith; goes-on = g; to = ap K e ∙ s .here jn })
-          (λ (ne : b ≡ j → ⊥). let m = M .marked b h (sym (other b ne) ∙ t) in record { row = m .row; below = omega (arith, m .below); goes-on = m .goes-on; to = m .to })
-          (eq-or-ne b j);
-    }
-      where
-        one : (b : ℕ) → b < n → K b ≡ K j → b ≡ j
-        one b h q = ⊎-elim (λ (l : b < j). absurd (omega (arith, mono b j l jn))) (λ (l : j ≤ b). ⊎-elim (λ (k : j < b). absurd (omega (arith, mono j b k h))) (λ (k : b ≤ j). omega arith) (lt-or-ge j b)) (lt-or-ge b j)
-
-    pub no-successor : c < n → n ≤ j → Joined K X n n → ⊥
-    no-successor h e J = let f = J .found c h g in s .nowhere (omega (arith, s .within)) (f .at) (f .within) (f .is)
-
-    pub taken-twice : c < n → j < n → tk j ≡ true → Joined K X n n → ⊥
-    taken-twice h jn t J = let m = M .marked j jn t in J .once (m .row) c (m .below) h (m .goes-on) g (sym (m .to) ∙ s .here jn)
-
-pub spot-as : (K : ℕ → ℕ) (n k k′ j : ℕ) → k ≡ k′ → Spot K n k j → Spot K n k′ j
-spot-as K n k k′ j e s = subst (λ (x : ℕ). Spot K n x j) e s
+mark-kept : (tl : List Bool) (z x : ℕ) → z < length tl → getD tl x false ≡ true → getD (set tl z true) x false ≡ true
+mark-kept tl z x h t = ⊎-elim (mark-set tl z x h) (λ (ne : x ≡ z → ⊥). getD-set-other tl z x true false ne ∙ t) (eq-or-ne x z)
 
 pub goes-by : (key tail : ℕ) (b : Bool) → b ≡ eqb (nextOf tail) (placeOf key) → not b ≡ true → IsLast key tail → ⊥
 goes-by key tail b e f h = flat b f (e ∙ eq-eqb (nextOf tail) (placeOf key) h)
@@ -93,22 +39,87 @@ last-by key tail b e f = eqb-true (nextOf tail) (placeOf key) (sym e ∙ flat b 
     flat true f = refl
     flat false f = absurd (not-both refl f)
 
--- a turn of the loop, over a list of marks
-module _ (K X : ℕ → ℕ) (n m c : ℕ) (tl tl′ : List Bool) (len : length tl ≡ m) (M : Marked K X n (λ j. getD tl j false) c) (h : c < n) where
-  pub turn-skip : IsLast (K c) (X c) → tl′ ≡ tl → (c + 1 ≤ n) × (length tl′ ≡ m) × Marked K X n (λ j. getD tl′ j false) (c + 1)
-  turn-skip e q = rw q (omega arith, len, marks-skip K X n (λ j. getD tl j false) c M e)
+-- ---- successors taken so far
 
-  pub turn-take : n ≤ m → ((a b : ℕ) → a < b → b < n → K a < K b) → (IsLast (K c) (X c) → ⊥) → (j : ℕ) → Spot K n (nextKey (K c) (X c)) j → j < n
-      → getD tl j false ≡ false → tl′ ≡ set tl j true → (c + 1 ≤ n) × (length tl′ ≡ m) × Marked K X n (λ j. getD tl′ j false) (c + 1)
-  turn-take nm mono g j s jn free q =
-      rw q (
-        omega arith,
-        length-set tl j true ∙ len,
-        marks-take K X n (λ j. getD tl j false) c M g j s mono jn free (λ i. getD (set tl j true) i false)
-            (getD-set-same tl j true false (omega arith)) (λ i ne. getD-set-other tl j i true false ne),
-      )
+-- one of the first c rows goes on to key k
+pub record TakenBelow (K X : ℕ → ℕ) (c k : ℕ) : Type 0 where
+  pub row : ℕ
+  pub below : row < c
+  pub goes-on : IsLast (K row) (X row) → ⊥
+  pub to : k ≡ nextKey (K row) (X row)
 
--- last rows of a ticket among the first c
+-- the marks are the successors of the first c rows, and `low` is the least ticket of one that does not join
+pub record Takes (K X : ℕ → ℕ) (n c : ℕ) (tl : List Bool) (low : ℕ) : Type 0 where
+  pub len : length tl ≡ 1024
+  pub marks : (i : ℕ) → i < c → (IsLast (K i) (X i) → ⊥) → (j : ℕ) → j < n → K j ≡ nextKey (K i) (X i) → getD tl j false ≡ true
+  pub marked : (j : ℕ) → j < n → getD tl j false ≡ true → TakenBelow K X c (K j)
+  pub lowest : Lowest (Joins K X n) K c low
+
+taken-more : {K X : ℕ → ℕ} {c k : ℕ} → TakenBelow K X c k → TakenBelow K X (c + 1) k
+taken-more t = record { row = t .row; below = omega (arith, t .below); goes-on = t .goes-on; to = t .to }
+
+pub takes-start : (K X : ℕ → ℕ) (n : ℕ) (tl : List Bool) → length tl ≡ 1024 → ((j : ℕ) → j < n → getD tl j false ≡ false) → Takes K X n 0 tl 16777216
+takes-start K X n tl e f = record { len = e; marks = λ i h. absurd (omega arith); marked = λ j h t. absurd (not-both t (f j h)); lowest = lowest-start (Joins K X n) K }
+
+module _ (K X : ℕ → ℕ) (n c : ℕ) {tl : List Bool} {low : ℕ} (M : Takes K X n c tl low) where
+  -- nothing new is taken
+  stay : ((IsLast (K c) (X c) → ⊥) → (j : ℕ) → j < n → K j ≡ nextKey (K c) (X c) → getD tl j false ≡ true) → {r : ℕ} → Lowest (Joins K X n) K (c + 1) r
+      → Takes K X n (c + 1) tl r
+  stay f L = record {
+    len = M .len;
+    marks = below-next (λ i. (IsLast (K i) (X i) → ⊥) → (j : ℕ) → j < n → K j ≡ nextKey (K i) (X i) → getD tl j false ≡ true) c (M .marks) f;
+    marked = λ j h t. taken-more (M .marked j h t);
+    lowest = L;
+  }
+
+  pub takes-last : IsLast (K c) (X c) → Takes K X n (c + 1) tl low
+  takes-last e = stay (λ g. absurd (g e)) (lowest-keep (Joins K X n) K (M .lowest) (record { found = λ g. absurd (g e); alone = λ g. absurd (g e) }))
+
+  module _ (g : IsLast (K c) (X c) → ⊥) (j : ℕ) (s : Spot K n (nextKey (K c) (X c)) j) where
+    -- there is no successor
+    pub takes-none : n ≤ j → {r : ℕ} → IsLeast low (ticketOf (K c)) r → Takes K X n (c + 1) tl r
+    takes-none h m = stay (λ _ i k q. absurd (s .nowhere (omega (arith, s .within)) i k q)) (lowest-lower (Joins K X n) K (M .lowest) astray m)
+      where
+        astray : Joins K X n c → ⊥
+        astray J = let f = J .found g in s .nowhere (omega (arith, s .within)) (f .at) (f .within) (f .is)
+
+    module _ (mono : (a b : ℕ) → a < b → b < n → K a < K b) (jn : j < n) where
+      one : (b : ℕ) → b < n → K b ≡ nextKey (K c) (X c) → b ≡ j
+      one b h q =
+          let e = s .here jn in
+          ⊎-elim (λ (l : b < j). absurd (omega (arith, mono b j l jn)))
+          (λ (l : j ≤ b). ⊎-elim (λ (k : j < b). absurd (omega (arith, mono j b k h))) (λ (k : b ≤ j). omega arith) (lt-or-ge j b))
+          (lt-or-ge b j)
+
+      -- a row before has taken it
+      pub takes-taken : getD tl j false ≡ true → {r : ℕ} → IsLeast low (ticketOf (K c)) r → Takes K X n (c + 1) tl r
+      takes-taken t m = stay (λ _ b h q. ap (λ (x : ℕ). getD tl x false) (one b h q) ∙ t) (lowest-lower (Joins K X n) K (M .lowest) twice m)
+        where
+          twice : Joins K X n c → ⊥
+          twice J = let b = M .marked j jn t in J .alone g (b .row) (b .below) (b .goes-on) (sym (b .to) ∙ s .here jn)
+
+      pub takes-free : n ≤ 1024 → getD tl j false ≡ false → Takes K X n (c + 1) (set tl j true) low
+      takes-free few free = record {
+        len = length-set tl j true ∙ M .len;
+        marks = below-next (λ i. (IsLast (K i) (X i) → ⊥) → (b : ℕ) → b < n → K b ≡ nextKey (K i) (X i) → getD (set tl j true) b false ≡ true) c
+            (λ i h a b k q. mark-kept tl j b (omega (arith, M .len)) (M .marks i h a b k q))
+            (λ _ b k q. mark-set tl j b (omega (arith, M .len)) (one b k q));
+        marked = λ b h t. ⊎-elim
+            (λ (e : b ≡ j). record { row = c; below = omega arith; goes-on = g; to = ap K e ∙ s .here jn })
+            (λ (ne : b ≡ j → ⊥). taken-more (M .marked b h (sym (getD-set-other tl j b true false ne) ∙ t)))
+            (eq-or-ne b j);
+        lowest = lowest-keep (Joins K X n) K (M .lowest) (record {
+          found = λ _. record { at = j; within = jn; is = s .here jn };
+          alone = λ _ i h a q. not-both (M .marks i h a j jn (s .here jn ∙ sym q)) free;
+        });
+      }
+
+pub spot-as : (K : ℕ → ℕ) (n k k′ j : ℕ) → k ≡ k′ → Spot K n k j → Spot K n k′ j
+spot-as K n k k′ j e s = subst (λ (x : ℕ). Spot K n x j) e s
+
+-- ---- last rows met so far
+
+-- a last row of ticket t among the first c
 module _ (K X : ℕ → ℕ) where
   pub no-last-start : (t : ℕ) → LastBelow K X 0 t → ⊥
   no-last-start t e = omega (arith, e .below)
@@ -118,60 +129,44 @@ module _ (K X : ℕ → ℕ) where
       (λ (h : c ≤ e .row). let q : e .row ≡ c = omega (arith, e .below) in g (subst (λ (x : ℕ). IsLast (K x) (X x)) q (e .last), ap (λ (x : ℕ). ticketOf (K x)) (sym q) ∙ e .ticket))
       (lt-or-ge (e .row) c)
 
-  pub one-last-start : OneLast K X 0
-  one-last-start = record { once = λ i j h k. absurd (omega arith) }
+-- each last row of the first c has marked its ticket's slot, and `low` is the least ticket of one that comes second
+pub record Ended (K X : ℕ → ℕ) (c : ℕ) (tl : List Bool) (low : ℕ) : Type 0 where
+  pub len : length tl ≡ 4096
+  pub marks : (b : ℕ) → b < c → IsLast (K b) (X b) → getD tl (K b % 4096) false ≡ true
+  pub lowest : Lowest (EndsOnce K X) K c low
 
-  pub one-last-next : (c : ℕ) → OneLast K X c → (Clash K X c → ⊥) → OneLast K X (c + 1)
-  one-last-next c O f = record {
-    once = λ i j h k a b t. below-next (λ j. i < j → IsLast (K j) (X j) → ticketOf (K i) ≡ ticketOf (K j) → ⊥) c
-        (λ j k h b t. O .once i j h k a b t) (λ h b t. f (record { last = b; earlier = record { row = i; below = h; last = a; ticket = t } })) j k h b t;
+pub ended-start : (K X : ℕ → ℕ) (tl : List Bool) → length tl ≡ 4096 → Ended K X 0 tl 16777216
+ended-start K X tl e = record { len = e; marks = λ b h. absurd (omega arith); lowest = lowest-start (EndsOnce K X) K }
+
+module _ (K X : ℕ → ℕ) (c : ℕ) {tl : List Bool} {low : ℕ} (M : Ended K X c tl low) where
+  pub ended-not : (IsLast (K c) (X c) → ⊥) → Ended K X (c + 1) tl low
+  ended-not g = record {
+    len = M .len;
+    marks = below-next (λ b. IsLast (K b) (X b) → getD tl (K b % 4096) false ≡ true) c (M .marks) (λ e. absurd (g e));
+    lowest = lowest-keep (EndsOnce K X) K (M .lowest) (λ C. g (C .last));
   }
 
-  pub clash-breaks : (c n : ℕ) → c < n → Clash K X c → OneLast K X n → ⊥
-  clash-breaks c n h C O = let e = C .earlier in O .once (e .row) c (e .below) h (e .last) (C .last) (e .ticket)
+  module _ (e : IsLast (K c) (X c)) (z : ℕ) (ez : z ≡ K c % 4096) (hz : z < 4096) where
+    marked : {r : ℕ} → Lowest (EndsOnce K X) K (c + 1) r → Ended K X (c + 1) (set tl z true) r
+    marked L = record {
+      len = length-set tl z true ∙ M .len;
+      marks = below-next (λ b. IsLast (K b) (X b) → getD (set tl z true) (K b % 4096) false ≡ true) c
+          (λ b h l. mark-kept tl z (K b % 4096) (omega (arith, M .len)) (M .marks b h l)) (λ _. mark-set tl z (K c % 4096) (omega (arith, M .len)) (sym ez));
+      lowest = L;
+    }
 
--- a mark set, and the marks that stood
-pub mark-set : (tl : List Bool) (z x : ℕ) → z < length tl → x ≡ z → getD (set tl z true) x false ≡ true
-mark-set tl z x h e = ap (λ (u : ℕ). getD (set tl z true) u false) e ∙ getD-set-same tl z true false h
+    -- a row before was last
+    pub ended-again : LastBelow K X c (ticketOf (K c)) → {r : ℕ} → IsLeast low (ticketOf (K c)) r → Ended K X (c + 1) (set tl z true) r
+    ended-again b m = marked (lowest-lower (EndsOnce K X) K (M .lowest) (λ f. f (record { last = e; earlier = b })) m)
 
-pub mark-kept : (tl : List Bool) (z x : ℕ) → z < length tl → getD tl x false ≡ true → getD (set tl z true) x false ≡ true
-mark-kept tl z x h t = ⊎-elim (mark-set tl z x h) (λ (ne : x ≡ z → ⊥). getD-set-other tl z x true false ne ∙ t) (eq-or-ne x z)
+    pub ended-first : (getD tl z false ≡ true → LastBelow K X c (ticketOf (K c)) → ⊥) → Ended K X (c + 1) (set tl z true) low
+    ended-first f = marked (lowest-keep (EndsOnce K X) K (M .lowest) (λ C. clash (C .earlier)))
+      where
+        coarse : (x : ℕ) → x % 4096 ≡ x % 16777216 % 4096
+        coarse x = omega arith
 
--- last rows so far have different tickets, and each has marked its ticket's slot
-pub record Seen (K X : ℕ → ℕ) (tk : ℕ → Bool) (c : ℕ) : Type 0 where
-  pub one : OneLast K X c
-  pub marks : (b : ℕ) → b < c → IsLast (K b) (X b) → tk (K b % 4096) ≡ true
+        slots : (x y : ℕ) → x % 16777216 ≡ y % 16777216 → x % 4096 ≡ y % 4096
+        slots x y t = coarse x ∙ ap (λ (u : ℕ). u % 4096) t ∙ sym (coarse y)
 
-module _ (K X : ℕ → ℕ) (n m c : ℕ) (tl tl′ : List Bool) (len : length tl ≡ m) (S : Seen K X (λ j. getD tl j false) c) (h : c < n) where
-  pub seen-skip : (IsLast (K c) (X c) → ⊥) → tl′ ≡ tl → (c + 1 ≤ n) × (length tl′ ≡ m) × Seen K X (λ j. getD tl′ j false) (c + 1)
-  seen-skip g q = rw q (
-    omega arith,
-    len,
-    record {
-      one = one-last-next K X c (S .one) (λ C. g (C .last));
-      marks = below-next (λ b. IsLast (K b) (X b) → getD tl (K b % 4096) false ≡ true) c (S .marks) (λ e. absurd (g e));
-    },
-  )
-
-  pub seen-mark : 4096 ≤ m → IsLast (K c) (X c) → (z : ℕ) → z ≡ K c % 4096 → (getD tl z false ≡ true → LastBelow K X c (ticketOf (K c)) → ⊥)
-      → tl′ ≡ set tl z true → (c + 1 ≤ n) × (length tl′ ≡ m) × Seen K X (λ j. getD tl′ j false) (c + 1)
-  seen-mark room e z ez f q = rw q (
-    omega arith,
-    length-set tl z true ∙ len,
-    record {
-      one = one-last-next K X c (S .one) (λ C. let b = C .earlier in f (subst (λ (x : ℕ). getD tl x false ≡ true) (same b ∙ sym ez) (S .marks (b .row) (b .below) (b .last))) b);
-      marks = below-next (λ b. IsLast (K b) (X b) → getD (set tl z true) (K b % 4096) false ≡ true) c (λ b h e. mark-kept tl z (K b % 4096) (omega arith) (S .marks b h e)) (λ _. mark-set tl z (K c % 4096) (omega arith) (sym ez));
-    },
-  )
-    where
-      same : (b : LastBelow K X c (ticketOf (K c))) → K (b .row) % 4096 ≡ K c % 4096
-      same b = fine (K (b .row)) (K c) (b .ticket)
-        where
-          fine : (x y : ℕ) → x % 16777216 ≡ y % 16777216 → x % 4096 ≡ y % 4096
-          fine x y t = coarse x ∙ ap (λ (u : ℕ). u % 4096) t ∙ sym (coarse y)
-            where
-              coarse : (x : ℕ) → x % 4096 ≡ x % 16777216 % 4096
-              coarse x = omega arith
-
-pub seen-start : (K X : ℕ → ℕ) (tk : ℕ → Bool) → Seen K X tk 0
-seen-start K X tk = record { one = one-last-start K X; marks = λ b h. absurd (omega arith) }
+        clash : LastBelow K X c (ticketOf (K c)) → ⊥
+        clash b = f (subst (λ (x : ℕ). getD tl x false ≡ true) (slots (K (b .row)) (K c) (b .ticket) ∙ sym ez) (M .marks (b .row) (b .below) (b .last))) b

@@ -3,7 +3,7 @@
 -- ringed rows that leave its next place then, no row is ringed.
 use Prim.Native.Nat.{ℕ, _+_, _≤_, _<_}
 use mathlib.Core.Path.{_≡_, refl, sym, subst, _∙_}
-use mathlib.Core.List.{List}
+use mathlib.Core.List.{List, List·Memᴰ}
 use native.Mathlib.Omega.{arith}
 use lib.ListN.{length, set, length-set}
 use lib.Seq.{getD-set-same, getD-set-other}
@@ -12,7 +12,7 @@ use Rattle.laws.specs.Lists.{at}
 use Rattle.rules.specs.declared.Row.{Row}
 use Rattle.rules.specs.Rows.{Crossing, Leads, Barred}
 use Rattle.rules.specs.Rows.Leads.{one, via}
-use Rattle.rules.specs.RowLaws.{row-crossing, crossing-apart, then}
+use Rattle.rules.specs.RowLaws.{row-crossing, crossing-apart, then, leads-fewer}
 use Rattle.rules.specs.Book.{Unbarred}
 use Rattle.flat.specs.Flat.{placeOf, exitOf, nextOf, rowOf, rowsIn}
 use Rattle.flat.specs.Crossings.{row-of, index-of, crossing-goes}
@@ -68,8 +68,12 @@ module _ (K X : List ℕ) (n : ℕ) where
       by (one c) d = ringed-by c (one d)
       by (via c l) d = ringed-by c (then l (one d))
 
-  pub ringed-candidate : ByPlace K X n → (i : ℕ) → Ringed K X n i → Candidate K X n i
-  ringed-candidate B i R = record { goes-on = R .goes-on; entered = leads-enters B (R .barred) }
+  -- among n rows of a book: what leads back among them leads back in the book, where each row that goes on has its next row
+  pub ringed-candidate : {count : ℕ} → ByPlace K X count → n ≤ count → (i : ℕ) → Ringed K X n i → Candidate K X count i
+  ringed-candidate {count} B h i R = record { goes-on = R .goes-on; entered = leads-enters B (leads-fewer among (R .barred)) }
+    where
+      among : (r : Row) → List·Memᴰ r (rowsIn K X n) → List·Memᴰ r (rowsIn K X count)
+      among r m = let x = index-of K X n m in subst (λ (r : Row). List·Memᴰ r (rowsIn K X count)) (x .2) (row-of K X count (x .0) (omega (arith, x .1)))
 
   pub falling-unringed : (R : ℕ → ℕ) → ((i k : ℕ) → Ringed K X n i → Follows K X i k → Ringed K X n k → R k < R i) → (i : ℕ) → Ringed K X n i → ⊥
   falling-unringed R f i G = strong (λ v. (i : ℕ) → R i ≡ v → Ringed K X n i → ⊥) step (R i) i refl G
@@ -77,18 +81,18 @@ module _ (K X : List ℕ) (n : ℕ) where
       step : (v : ℕ) → ((u : ℕ) → u < v → (i : ℕ) → R i ≡ u → Ringed K X n i → ⊥) → (i : ℕ) → R i ≡ v → Ringed K X n i → ⊥
       step v up i e G = let k = ringed-next i G in up (R (k .0)) (omega (arith, f i (k .0) G (k .1) (k .2))) (k .0) refl (k .2)
 
--- ---- the candidates among the first c of n rows, listed in their order: m rows L
+-- ---- rows listed in their order: m rows L among the first c, each of which goes on, and with them all of which P holds
 
-pub record Listed (K X : List ℕ) (n c : ℕ) (L : List ℕ) (m : ℕ) : Type 0 where
+pub record Listed (P : ℕ → Type 0) (K X : List ℕ) (c : ℕ) (L : List ℕ) (m : ℕ) : Type 0 where
   pub few : m ≤ c
   pub within : (j : ℕ) → j < m → at L j < c
   pub rises : (i j : ℕ) → i < j → j < m → at L i < at L j
   pub goes-on : (j : ℕ) → j < m → IsLast (at K (at L j)) (at X (at L j)) → ⊥
-  pub all : (i : ℕ) → i < c → Candidate K X n i → (j : ℕ) × (j < m) × (at L j ≡ i)
+  pub all : (i : ℕ) → i < c → P i → (j : ℕ) × (j < m) × (at L j ≡ i)
   pub long : length L ≡ 1024
 
-module _ (K X : List ℕ) (n : ℕ) where
-  pub listed-start : (L : List ℕ) → length L ≡ 1024 → Listed K X n 0 L 0
+module _ (P : ℕ → Type 0) (K X : List ℕ) where
+  pub listed-start : (L : List ℕ) → length L ≡ 1024 → Listed P K X 0 L 0
   listed-start L e = record {
     few = omega arith;
     within = λ j h. absurd (omega arith);
@@ -98,25 +102,25 @@ module _ (K X : List ℕ) (n : ℕ) where
     long = e;
   }
 
-  module _ (c : ℕ) (L : List ℕ) (m : ℕ) (A : Listed K X n c L m) where
-    pub listed-skip : (Candidate K X n c → ⊥) → Listed K X n (c + 1) L m
+  module _ (c : ℕ) (L : List ℕ) (m : ℕ) (A : Listed P K X c L m) where
+    pub listed-skip : (P c → ⊥) → Listed P K X (c + 1) L m
     listed-skip f = record {
       few = omega (arith, A .few);
       within = λ j h. omega (arith, A .within j h);
       rises = A .rises;
       goes-on = A .goes-on;
-      all = below-next (λ i. Candidate K X n i → (j : ℕ) × (j < m) × (at L j ≡ i)) c (A .all) (λ C. absurd (f C));
+      all = below-next (λ i. P i → (j : ℕ) × (j < m) × (at L j ≡ i)) c (A .all) (λ C. absurd (f C));
       long = A .long;
     }
 
-    pub listed-put : c < 1024 → (IsLast (at K c) (at X c) → ⊥) → Listed K X n (c + 1) (set L m c) (m + 1)
+    pub listed-put : c < 1024 → (IsLast (at K c) (at X c) → ⊥) → Listed P K X (c + 1) (set L m c) (m + 1)
     listed-put h g = record {
       few = omega (arith, A .few);
       within = below-next (λ j. at M j < c + 1) m (λ j k. omega (arith, old j k, A .within j k)) (omega (arith, new));
       rises = λ i j k l. below-next (λ j. i < j → at M i < at M j) m
           (λ j l k. omega (arith, old i (omega arith), old j l, A .rises i j k l)) (λ k. omega (arith, old i k, new, A .within i k)) j l k;
       goes-on = below-next (λ j. IsLast (at K (at M j)) (at X (at M j)) → ⊥) m (λ j k. rw (old j k) (A .goes-on j k)) (rw new g);
-      all = below-next (λ i. Candidate K X n i → (j : ℕ) × (j < m + 1) × (at M j ≡ i)) c
+      all = below-next (λ i. P i → (j : ℕ) × (j < m + 1) × (at M j ≡ i)) c
           (λ i k C. let a = A .all i k C in (a .0, omega (arith, a .1), old (a .0) (a .1) ∙ a .2)) (λ _. (m, omega arith, new));
       long = length-set L m c ∙ A .long;
     }
@@ -130,6 +134,6 @@ module _ (K X : List ℕ) (n : ℕ) where
         new : at M m ≡ c
         new = getD-set-same L m c 0 (omega (arith, A .few, A .long))
 
-  module _ (B : ByPlace K X n) {L : List ℕ} {m : ℕ} (A : Listed K X n n L m) where
-    pub ringed-listed : (i : ℕ) → Ringed K X n i → (j : ℕ) × (j < m) × (at L j ≡ i)
-    ringed-listed i R = A .all i (R .within) (ringed-candidate K X n B i R)
+-- with all of which P holds, all of which Q holds
+pub listed-as : {P Q : ℕ → Type 0} {K X : List ℕ} {c : ℕ} {L : List ℕ} {m : ℕ} → ((i : ℕ) → Q i → P i) → Listed P K X c L m → Listed Q K X c L m
+listed-as f A = record { few = A .few; within = A .within; rises = A .rises; goes-on = A .goes-on; all = λ i h q. A .all i h (f i q); long = A .long }

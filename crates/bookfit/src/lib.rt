@@ -1,4 +1,5 @@
-// Whether rows given as arrays of numbers are a well-formed book: each test looks through the arrays once, or only where it must.
+// Whether rows given as arrays of numbers are a well-formed book, and if not what is wrong and at which row: each test looks through the arrays once, or only
+// where it must.
 // Keys are packed, so that the order of keys is the order of numbers.
 use rules::Book;
 use rules::Map;
@@ -14,16 +15,28 @@ ghost use Rattle.rules.specs.Map.{linked, MapRules};
 ghost use Rattle.rules.specs.Book.{Unbarred};
 ghost use Rattle.flat.specs.Flat.{placesIn, linksIn, Chained, placeOf, entryOf, ticketOf, nextOf, keyLimit, rowOf, rowsIn, Packed, KeysRise};
 ghost use Rattle.lookup.specs.Keys.{Keyed};
-ghost use Rattle.lookup.specs.Crossings.{ByPlace};
-ghost use Rattle.bookfit.specs.Join.{nextKey, IsLast, Joined, OneLast, LastBelow};
-ghost use Rattle.bookfit.specs.Rows.{TicketFits, TicketsFit, RowFits, RowsFit};
-ghost use Rattle.bookfit.specs.Ring.{Ringed, Leaves, Listed};
+ghost use Rattle.lookup.specs.Crossings.{Timed, ByPlace};
+ghost use Rattle.windows.specs.Places.{Given};
+ghost use Rattle.bookfit.specs.Join.{nextKey, IsLast, Joins, LastBelow, EndsOnce};
+ghost use Rattle.bookfit.specs.Least.{IsLeast, Lowest, FirstOf};
+ghost use Rattle.bookfit.specs.Rows.{TicketFits, InRange, RowFits, OnMap, Unfit};
+ghost use Rattle.bookfit.specs.Prefix.{FirstAt, FirstFall};
+ghost use Rattle.bookfit.specs.Ring.{Candidate, Ringed, Leaves, Listed};
 ghost use Rattle.bookfit.specs.Filed.{leaveSlot, Chains, Ahead, Filed, Pile, AboveAll};
-ghost use Rattle.bookfit.specs.Formed.{Sound};
-ghost use Rattle.bookfit.specs.Answer.{BookFits};
+ghost use Rattle.bookfit.specs.Formed.{Capped};
+ghost use Rattle.bookfit.specs.Answer.{Lent, FirstBroken, faultCode, BookFits};
 
 // The day's end, as wide as a key.
 const DAY: u64 = Map::DAY as u64;
+
+// More than any ticket.
+const NO_TICKET: u64 = flat::SECOND;
+
+// In a ticket's place: a row's numbers are out of their ranges.
+const OUT_OF_RANGE: u64 = NO_TICKET + 1;
+
+// A refusal's number times this stands above its row.
+pub const FAULT: usize = 2048;
 
 // ---- the rows of a ticket are one run
 
@@ -43,14 +56,24 @@ fn is_last(key: u64, tail: u32) -> bool
     q == key / flat::PLACE
 }
 
-// each of the rows that is not last has its successor, no two the same; any table serves as hints
-fn rows_joined(key: &[u64; 1024], tail: &[u32; 1024], count: usize, hint: &[u16]) -> bool
+fn least(a: u64, b: u64) -> u64
+    ensures { λ r. ⌜ IsLeast a b r ⌝ }
+{
+    if a < b {
+        return a;
+    }
+    b
+}
+
+// The least ticket of a row that goes on and has no successor, or one that a row before has taken; any table serves as hints.
+fn least_astray(key: &[u64; 1024], tail: &[u32; 1024], count: usize, hint: &[u16]) -> u64
     requires { ⌜ count ≤ 1024 ⌝ }
     requires { ⌜ Packed (now key) ⌝ }
     requires { ⌜ KeysRise (now key) count ⌝ }
-    ensures { λ r. ⌜ Decides r (Joined (at (now (key .entry))) (at (now (tail .entry))) count count) ⌝ }
+    ensures { λ r. ⌜ Lowest (Joins (at (now (key .entry))) (at (now (tail .entry))) count) (at (now (key .entry))) count r ⌝ }
 {
     let mut taken = [false; 1024];
+    let mut low = NO_TICKET;
     let mut i = 0;
     while i < count {
         let k = key[i];
@@ -58,32 +81,32 @@ fn rows_joined(key: &[u64; 1024], tail: &[u32; 1024], count: usize, hint: &[u16]
         if !is_last(k, x) {
             let j = lookup::hinted(key, hint, count, next_key(k, x));
             if j >= count {
-                return false;
+                low = least(low, k % flat::SECOND);
+            } else if taken[j] {
+                low = least(low, k % flat::SECOND);
+            } else {
+                taken[j] = true;
             }
-            if taken[j] {
-                return false;
-            }
-            taken[j] = true;
         }
         i += 1;
     }
-    true
+    low
 }
 
-// the same: a table of hints pays off where rows are many
-pub fn rows_join(key: &[u64; 1024], tail: &[u32; 1024], count: usize) -> bool
+// The same: a table of hints pays off where rows are many.
+fn least_unjoined(key: &[u64; 1024], tail: &[u32; 1024], count: usize) -> u64
     requires { ⌜ count ≤ 1024 ⌝ }
     requires { ⌜ Packed (now key) ⌝ }
     requires { ⌜ KeysRise (now key) count ⌝ }
-    ensures { λ r. ⌜ Decides r (Joined (at (now (key .entry))) (at (now (tail .entry))) count count) ⌝ }
+    ensures { λ r. ⌜ Lowest (Joins (at (now (key .entry))) (at (now (tail .entry))) count) (at (now (key .entry))) count r ⌝ }
 {
     if count < 64 {
         let none = [0u16; 1];
-        return rows_joined(key, tail, count, &none);
+        return least_astray(key, tail, count, &none);
     }
     let mut hint = [0u16; 4096];
     lookup::fill_hints(key, count, &mut hint);
-    rows_joined(key, tail, count, &hint)
+    least_astray(key, tail, count, &hint)
 }
 
 // the last row of ticket t
@@ -130,12 +153,13 @@ fn last_met(key: &[u64; 1024], tail: &[u32; 1024], i: usize, t: u64, marked: boo
     last_among(key, tail, i, t)
 }
 
-// no two last rows have the same ticket: a look back only where a ticket's slot is marked already
-pub fn one_last_row(key: &[u64; 1024], tail: &[u32; 1024], count: usize) -> bool
+// The least ticket of a last row before which another is the last of its ticket: a look back only where a ticket's slot is marked already.
+fn least_ended(key: &[u64; 1024], tail: &[u32; 1024], count: usize) -> u64
     requires { ⌜ count ≤ 1024 ⌝ }
-    ensures { λ r. ⌜ Decides r (OneLast (at (now (key .entry))) (at (now (tail .entry))) count) ⌝ }
+    ensures { λ r. ⌜ Lowest (EndsOnce (at (now (key .entry))) (at (now (tail .entry)))) (at (now (key .entry))) count r ⌝ }
 {
     let mut seen = [false; 4096];
+    let mut low = NO_TICKET;
     let mut i = 0;
     while i < count {
         let k = key[i];
@@ -143,30 +167,30 @@ pub fn one_last_row(key: &[u64; 1024], tail: &[u32; 1024], count: usize) -> bool
             let h = slot_of(k);
             let s = seen[h];
             if last_met(key, tail, i, k % flat::SECOND, s) {
-                return false;
+                low = least(low, k % flat::SECOND);
             }
             seen[h] = true;
         }
         i += 1;
     }
-    true
+    low
 }
 
 // ---- each row by itself
 
-// keys rise strictly: where neighbours do, all do
-pub fn rising(key: &[u64; 1024], count: usize) -> bool
+// The number, from 1, of the first row whose key is not above the one before it; 0 where keys rise.
+fn first_fall(key: &[u64; 1024], count: usize) -> usize
     requires { ⌜ count ≤ 1024 ⌝ }
-    ensures { λ r. ⌜ Decides r (KeysRise (now (key .entry)) count) ⌝ }
+    ensures { λ r. ⌜ FirstFall (now (key .entry)) count r ⌝ }
 {
     let mut i = 1;
     while i < count {
         if key[i - 1] >= key[i] {
-            return false;
+            return i + 1;
         }
         i += 1;
     }
-    true
+    0
 }
 
 // the ticket was issued: at least 1 and below the next number
@@ -180,17 +204,21 @@ fn ticket_fits(key: u64, next_ticket: u32) -> bool
     t < next_ticket as u64
 }
 
-// each row's ticket was issued
-pub fn tickets_fit(key: &[u64; 1024], count: usize, next_ticket: u32) -> bool
-    requires { ⌜ count ≤ 1024 ⌝ }
-    ensures { λ r. ⌜ Decides r (TicketsFit (at (now (key .entry))) count «next_ticket») ⌝ }
+// The places of a row are on the map and its seconds in the day.
+fn in_range(n: usize, key: u64, tail: u32) -> bool
+    ensures { λ r. ⌜ Decides r (InRange n (rowOf key tail)) ⌝ }
 {
-    let mut i = 0;
-    while i < count {
-        if !ticket_fits(key[i], next_ticket) {
-            return false;
-        }
-        i += 1;
+    if key / flat::PLACE >= n as u64 {
+        return false;
+    }
+    if flat::next_of(tail) as usize >= n {
+        return false;
+    }
+    if key / flat::SECOND % flat::SECOND > DAY {
+        return false;
+    }
+    if flat::exit_of(tail) > Map::DAY {
+        return false;
     }
     true
 }
@@ -239,8 +267,8 @@ fn row_fits(
     mapfit::linked_by(p, next, k, from, to, head, chain)
 }
 
-// each row fits
-pub fn rows_fit(
+// The least ticket of a row that does not fit, or OUT_OF_RANGE where a row's numbers are out of their ranges. A row that fits is within them.
+fn least_unfit(
     n: usize,
     k: usize,
     dur: &[u32; 256],
@@ -248,24 +276,102 @@ pub fn rows_fit(
     to: &[u8; 1024],
     head: &[u16; 256],
     chain: &[u16; 1024],
+    next_ticket: u32,
     key: &[u64; 1024],
     tail: &[u32; 1024],
     count: usize,
-) -> bool
+) -> u64
     requires { ⌜ count ≤ 1024 ⌝ }
     requires { ⌜ k ≤ 1024 ⌝ }
     requires { ⌜ Chained (now from) k (now head) (now chain) ⌝ }
-    requires { ⌜ ((i : ℕ) → at (now key) i < keyLimit) ⌝ }
-    ensures { λ r. ⌜ Decides r (RowsFit n (at (now (dur .entry))) (linked (linksIn (now (from .entry)) (now (to .entry)) k)) (at (now (key .entry))) (at (now (tail .entry))) count) ⌝ }
+    requires { ⌜ Packed (now key) ⌝ }
+    requires { ⌜ OnMap n (linked (linksIn (now from) (now to) k)) ⌝ }
+    ensures { λ r. ⌜ Unfit n (at (now (dur .entry))) (linked (linksIn (now (from .entry)) (now (to .entry)) k)) (at (now (key .entry))) (at (now (tail .entry)))
+        «next_ticket» count r ⌝ }
 {
+    let mut low = NO_TICKET;
     let mut i = 0;
     while i < count {
-        if !row_fits(n, k, dur, from, to, head, chain, key[i], tail[i]) {
-            return false;
+        let x = key[i];
+        let y = tail[i];
+        if !ticket_fits(x, next_ticket) {
+            return OUT_OF_RANGE;
+        }
+        if !row_fits(n, k, dur, from, to, head, chain, x, y) {
+            if !in_range(n, x, y) {
+                return OUT_OF_RANGE;
+            }
+            low = least(low, x % flat::SECOND);
         }
         i += 1;
     }
-    true
+    low
+}
+
+// The number, from 1, of the first row of ticket t; 0 where there is none.
+fn first_of(key: &[u64; 1024], count: usize, t: u64) -> usize
+    requires { ⌜ count ≤ 1024 ⌝ }
+    ensures { λ r. ⌜ FirstOf (now (key .entry)) count t r ⌝ }
+{
+    let mut j = 0;
+    while j < count {
+        if key[j] % flat::SECOND == t {
+            return j + 1;
+        }
+        j += 1;
+    }
+    0
+}
+
+// The number, from 1, of the first row of the lowest ticket whose rows are no plan; 0 where all are. `unfit` is the least ticket of a row that does not fit.
+fn first_broken(key: &[u64; 1024], tail: &[u32; 1024], count: usize, unfit: u64) -> usize
+    requires { ⌜ count ≤ 1024 ⌝ }
+    requires { ⌜ Packed (now key) ⌝ }
+    requires { ⌜ KeysRise (now key) count ⌝ }
+    ensures { λ r. ⌜ FirstBroken (now (key .entry)) (now (tail .entry)) count unfit r ⌝ }
+{
+    let astray = least_unjoined(key, tail, count);
+    let ended = least_ended(key, tail, count);
+    let low = least(unfit, least(astray, ended));
+    if low == NO_TICKET {
+        return 0;
+    }
+    first_of(key, count, low)
+}
+
+// ---- a place overfilled
+
+// The number, from 1, of the first row at which a place is overfilled, of rows that overfill one: the first `good` rows overfill none, the first `bad`
+// rows do. What is lent for windows holds nothing of use after.
+fn first_overfull(
+    n: usize,
+    count: usize,
+    cap: &[u8; 256],
+    dur: &[u32; 256],
+    key: &[u64; 1024],
+    tail: &[u32; 1024],
+    start: &mut [u32; 1280],
+    end: &mut [u32; 1280],
+    place: &mut [u8; 1280],
+    first: &mut [u16; 257],
+) -> usize
+    requires { ⌜ Given n count (now cap) (now dur) (now key) (now tail) ⌝ }
+    requires { ⌜ (Capped n (now cap) (rowsIn (now key) (now tail) count) → ⊥) ⌝ }
+    requires { ⌜ Lent (now start) (now end) (now place) (now first) ⌝ }
+    ensures { λ r. ⌜ FirstAt (Capped n (now (cap .entry))) (now (key .entry)) (now (tail .entry)) count r ⌝ }
+{
+    let mut good = 0;
+    let mut bad = count;
+    while bad - good > 1 {
+        let mid = good + (bad - good) / 2;
+        let found = windows::all_windows(n, mid, cap, dur, key, tail, start, end, place, first);
+        if found == windows::NONE {
+            bad = mid;
+        } else {
+            good = mid;
+        }
+    }
+    bad
 }
 
 // ---- the exchange rule: no crossing closes a ring with others of its second
@@ -294,15 +400,22 @@ fn row_at(list: &[u16; 1024], c: usize) -> usize
     broad(list[c])
 }
 
-// The rows that go on out of a place which another enters then: no other can be on a ring. How many they are.
-fn candidates(key: &[u64; 1024], tail: &[u32; 1024], count: usize, list: &mut [u16; 1024]) -> usize
+// Of the first `upto` rows those that go on out of a place which another of the book enters then: no other can be on a ring. How many they are.
+fn candidates(
+    key: &[u64; 1024],
+    tail: &[u32; 1024],
+    count: usize,
+    upto: usize,
+    list: &mut [u16; 1024],
+) -> usize
     requires { ⌜ ByPlace (now key) (now tail) count ⌝ }
+    requires { ⌜ upto ≤ count ⌝ }
     requires { ⌜ length (now list) ≡ 1024 ⌝ }
-    ensures { λ r. ⌜ Listed (now (key .entry)) (now (tail .entry)) count count (now (list .exit)) r ⌝ }
+    ensures { λ r. ⌜ Listed (Candidate (now (key .entry)) (now (tail .entry)) count) (now (key .entry)) (now (tail .entry)) upto (now (list .exit)) r ⌝ }
 {
     let mut m = 0;
     let mut i = 0;
-    while i < count {
+    while i < upto {
         let k = key[i];
         let x = tail[i];
         if lookup::entered_after(key, count, i, flat::place_of(k), flat::exit_of(x)) {
@@ -327,7 +440,7 @@ fn file_rows(
     chain: &mut [u16; 1024],
 )
     requires { ⌜ Keyed (now key) count ⌝ }
-    requires { ⌜ Listed (now key) (now tail) count count (now list) m ⌝ }
+    requires { ⌜ Listed (Ringed (now key) (now tail) count) (now key) (now tail) count (now list) m ⌝ }
     requires { ⌜ Filed (now key) (now tail) (now list) m 0 (now head) (now chain) ⌝ }
     ensures { λ _. ⌜ Filed (now (key .entry)) (now (tail .entry)) (now (list .entry)) m m (now (head .exit)) (now (chain .exit)) ⌝ }
 {
@@ -510,8 +623,8 @@ fn ranks_fall(
     chain: &[u16; 1024],
     rank: &[u16; 1024],
 ) -> bool
-    requires { ⌜ ByPlace (now key) (now tail) count ⌝ }
-    requires { ⌜ Listed (now key) (now tail) count count (now list) m ⌝ }
+    requires { ⌜ Timed (now key) (now tail) count ⌝ }
+    requires { ⌜ Listed (Ringed (now key) (now tail) count) (now key) (now tail) count (now list) m ⌝ }
     requires { ⌜ Filed (now key) (now tail) (now list) m m (now head) (now chain) ⌝ }
     ensures { λ r. ⌜ Decides r (Unbarred (rowsIn (now (key .entry)) (now (tail .entry)) count)) ⌝ }
 {
@@ -536,19 +649,20 @@ fn ranks_fall(
     true
 }
 
-// no crossing of the book is barred by the others: the candidates are listed, filed and numbered, and their numbers tested
-fn ring_free(key: &[u64; 1024], tail: &[u32; 1024], count: usize) -> bool
+// No crossing of the first `upto` rows is barred by the others among them: the candidates are listed, filed and numbered, and their numbers tested.
+fn ring_free(key: &[u64; 1024], tail: &[u32; 1024], count: usize, upto: usize) -> bool
     requires { ⌜ ByPlace (now key) (now tail) count ⌝ }
-    ensures { λ r. ⌜ Decides r (Unbarred (rowsIn (now (key .entry)) (now (tail .entry)) count)) ⌝ }
+    requires { ⌜ upto ≤ count ⌝ }
+    ensures { λ r. ⌜ Decides r (Unbarred (rowsIn (now (key .entry)) (now (tail .entry)) upto)) ⌝ }
 {
     let mut list = [0u16; 1024];
-    let m = candidates(key, tail, count, &mut list);
+    let m = candidates(key, tail, count, upto, &mut list);
     let mut head = [0u16; 1024];
     let mut chain = [0u16; 1024];
-    file_rows(key, tail, count, &list, m, &mut head, &mut chain);
+    file_rows(key, tail, upto, &list, m, &mut head, &mut chain);
     let mut rank = [0u16; 1024];
     number_rows(key, tail, &list, m, &head, &chain, &mut rank);
-    ranks_fall(key, tail, count, &list, m, &head, &chain, &rank)
+    ranks_fall(key, tail, upto, &list, m, &head, &chain, &rank)
 }
 
 // One row goes on out of a place which another enters then, to one which another leaves then: without one there is no ring.
@@ -573,62 +687,47 @@ fn linked(key: &[u64; 1024], tail: &[u32; 1024], count: usize) -> bool
 }
 
 // no crossing of the book is barred by the others; most often two that follow each other are not to be found
-pub fn exchange_kept(key: &[u64; 1024], tail: &[u32; 1024], count: usize) -> bool
+fn exchange_kept(key: &[u64; 1024], tail: &[u32; 1024], count: usize) -> bool
     requires { ⌜ ByPlace (now key) (now tail) count ⌝ }
     ensures { λ r. ⌜ Decides r (Unbarred (rowsIn (now (key .entry)) (now (tail .entry)) count)) ⌝ }
 {
     if !linked(key, tail, count) {
         return true;
     }
-    ring_free(key, tail, count)
+    ring_free(key, tail, count, count)
+}
+
+// The number, from 1, of the first row at which a crossing is barred, of rows of which one is: the first `good` rows hold no ring, the first `bad` rows do.
+fn first_barred(key: &[u64; 1024], tail: &[u32; 1024], count: usize) -> usize
+    requires { ⌜ ByPlace (now key) (now tail) count ⌝ }
+    requires { ⌜ (Unbarred (rowsIn (now key) (now tail) count) → ⊥) ⌝ }
+    ensures { λ r. ⌜ FirstAt Unbarred (now (key .entry)) (now (tail .entry)) count r ⌝ }
+{
+    let mut good = 0;
+    let mut bad = count;
+    while bad - good > 1 {
+        let mid = good + (bad - good) / 2;
+        if ring_free(key, tail, count, mid) {
+            good = mid;
+        } else {
+            bad = mid;
+        }
+    }
+    bad
 }
 
 // ---- the whole book
 
-// all that is asked of the rows before the room at their places is looked at
-fn rows_sound(
-    n: usize,
-    k: usize,
-    dur: &[u32; 256],
-    from: &[u8; 1024],
-    to: &[u8; 1024],
-    head: &[u16; 256],
-    chain: &[u16; 1024],
-    count: usize,
-    next_ticket: u32,
-    key: &[u64; 1024],
-    tail: &[u32; 1024],
-) -> bool
-    requires { ⌜ k ≤ 1024 ⌝ }
-    requires { ⌜ Chained (now from) k (now head) (now chain) ⌝ }
-    requires { ⌜ Packed (now key) ⌝ }
-    ensures { λ r. ⌜ Decides r (Sound (now (dur .entry)) n (now (from .entry)) (now (to .entry)) k (now (key .entry)) (now (tail .entry)) count «next_ticket») ⌝ }
+// A refusal and its row as one number, above every number of windows.
+fn fault(number: usize, row: usize) -> usize
+    requires { ⌜ (number ≤ 16) × (row ≤ 1024) ⌝ }
+    ensures { λ r. ⌜ r ≡ faultCode number row ⌝ }
 {
-    if count > Book::ROWS {
-        return false;
-    }
-    if next_ticket < 1 {
-        return false;
-    }
-    if next_ticket > Book::TICKETS {
-        return false;
-    }
-    if !rising(key, count) {
-        return false;
-    }
-    if !tickets_fit(key, count, next_ticket) {
-        return false;
-    }
-    if !rows_fit(n, k, dur, from, to, head, chain, key, tail, count) {
-        return false;
-    }
-    if !rows_join(key, tail, count) {
-        return false;
-    }
-    one_last_row(key, tail, count)
+    number * FAULT + row
 }
 
-// The number of free windows of a well-formed book, which stand in the lent arrays place after place; windows::NONE where the book is not well formed.
+// The number of free windows of a well-formed book, which stand in the lent arrays place after place; else what is wrong with it, as one number with the
+// row at which it shows. A row is looked for only where its check has failed.
 pub fn book_fits(
     n: usize,
     k: usize,
@@ -650,14 +749,20 @@ pub fn book_fits(
     requires { ⌜ MapRules (placesIn (now cap) (now dur) n) (linksIn (now from) (now to) k) ⌝ }
     requires { ⌜ Chained (now from) k (now head) (now chain) ⌝ }
     requires { ⌜ Packed (now key) ⌝ }
-    requires { ⌜ length (now start) ≡ 1280 ⌝ }
-    requires { ⌜ length (now end) ≡ 1280 ⌝ }
-    requires { ⌜ length (now place) ≡ 1280 ⌝ }
-    requires { ⌜ length (now first) ≡ 257 ⌝ }
+    requires { ⌜ Lent (now start) (now end) (now place) (now first) ⌝ }
     ensures { λ r. ⌜ BookFits (now (cap .entry)) (now (dur .entry)) n (now (from .entry)) (now (to .entry)) k (now (key .entry)) (now (tail .entry)) count «next_ticket»
         r (now (start .exit)) (now (end .exit)) (now (place .exit)) (now (first .exit)) ⌝ }
 {
-    if !rows_sound(
+    if count > Book::ROWS {
+        return fault(2, 0);
+    }
+    if next_ticket < 1 {
+        return fault(2, 0);
+    }
+    if next_ticket > Book::TICKETS {
+        return fault(2, 0);
+    }
+    let unfit = least_unfit(
         n,
         k,
         dur,
@@ -665,19 +770,30 @@ pub fn book_fits(
         to,
         head,
         chain,
-        count,
         next_ticket,
         key,
         tail,
-    ) {
-        return windows::NONE;
+        count,
+    );
+    if unfit == OUT_OF_RANGE {
+        return fault(2, 0);
+    }
+    let falls = first_fall(key, count);
+    if falls > 0 {
+        return fault(13, falls);
+    }
+    let broken = first_broken(key, tail, count, unfit);
+    if broken > 0 {
+        return fault(14, broken);
     }
     let w = windows::all_windows(n, count, cap, dur, key, tail, start, end, place, first);
     if w == windows::NONE {
-        return windows::NONE;
+        let i = first_overfull(n, count, cap, dur, key, tail, start, end, place, first);
+        return fault(15, i);
     }
     if !exchange_kept(key, tail, count) {
-        return windows::NONE;
+        let i = first_barred(key, tail, count);
+        return fault(16, i);
     }
     w
 }

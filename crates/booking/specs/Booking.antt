@@ -18,7 +18,7 @@ use Rattle.rules.specs.Plan.{Stay, Permitted, arrival, runRows}
 use Rattle.rules.specs.Book.{GoodBook, rowsOf, bookOf}
 use Rattle.rules.specs.Chosen.{Chosen}
 use Rattle.rules.specs.Gate.Checked.{sound}
-use Rattle.rules.specs.Answer.{number, BookIs, BookSound, BookRefused}
+use Rattle.rules.specs.Answer.{number, faultRow, BookIs, BookingIs, BookSound}
 
 -- ---- the answers
 
@@ -52,8 +52,8 @@ module _ {Y : Yard} {b : Book} {start dest s : ℕ} where
 
 -- ---- at the gate
 
-pub book-refused : {b : Book} {x : Refusal} (n : ℕ) → number x ≡ n → BookRefused n b (record { book = b; answer = Refused x })
-book-refused n h = record { code = h; issues = refl; arrives = refl; counts = refl; holds = refl }
+pub book-refused : {b : Book} {x : Refusal} (n i : ℕ) → number x ≡ n → faultRow x ≡ i → BookingIs n 0 0 i b (record { book = b; answer = Refused x })
+book-refused n i h k = record { code = h; issues = refl; arrives = refl; counts = k; holds = refl }
 
 pub book-sound-is : {m : Map} {b : Book} {start dest s : ℕ} {Y : Yard} {r : Booking} → GoodMap m → GoodBook (mapYard m) b → Y ≡ mapYard m
     → BookSound Y (rowsOf b) b start dest s r → BookIs m b start dest s r

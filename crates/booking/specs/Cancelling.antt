@@ -9,12 +9,12 @@ use Rattle.rules.specs.declared.Refusal.{Refusal}
 use Rattle.rules.specs.declared.Refusal.the-variants.{UnknownTicket}
 use Rattle.rules.specs.Rows.{keep}
 use Rattle.rules.specs.Book.{rowsOf, bookOf, ofTicket, otherTicket}
-use Rattle.rules.specs.Answer.{number, CancelRefused, CancelSound}
+use Rattle.rules.specs.Answer.{number, faultRow, CancellingIs, CancelSound}
 use Rattle.ledger.specs.Remove.{counted-known, none-counted}
 
 -- at the gate
-pub cancel-refused : {b : Book} {x : Refusal} (n : ℕ) → number x ≡ n → CancelRefused n b (record { book = b; answer = Refused x })
-cancel-refused n h = record { code = h; counts = refl; holds = refl }
+pub cancel-refused : {b : Book} {x : Refusal} (n i : ℕ) → number x ≡ n → faultRow x ≡ i → CancellingIs n i b (record { book = b; answer = Refused x })
+cancel-refused n i h k = record { code = h; counts = k; holds = refl }
 
 module _ {b : Book} {ticket : ℕ} where
   pub cancel-unknown : length (keep (ofTicket ticket) (rowsOf b)) ≡ 0 → CancelSound b ticket (record { book = b; answer = Refused UnknownTicket })

@@ -7,14 +7,14 @@ use Rattle.rules.specs.declared.Map.{Map}
 use Rattle.rules.specs.declared.Book.{Book}
 use Rattle.rules.specs.Map.{mapYard}
 use Rattle.rules.specs.Book.{WellFormed, rowsOf, bookOf}
-use Rattle.rules.specs.Gate.{Papers, papersOf}
+use Rattle.rules.specs.Gate.{Papers, BookGood, papersOf}
 use Rattle.rules.specs.GateLaws.{checked-as}
 use Rattle.flat.specs.Flat.{rowsIn, yardIn, papersIn}
 use Rattle.search.specs.Lanes.{Lanes}
 use Rattle.vet.specs.declared.Verdict.{Verdict}
-use Rattle.vet.specs.Vetted.{verdictNumber, Vetted}
+use Rattle.vet.specs.Vetted.{verdictNumber, verdictRow, Vetted}
 use Rattle.flatten.specs.Maps.{PlacesFlat, LinksFlat}
-use Rattle.flatten.specs.Read.{BookRead, read-true, read-good}
+use Rattle.flatten.specs.Read.{BookRead, read-rows, read-true, read-counted}
 use Rattle.flatten.specs.Given.{given}
 use Rattle.keeping.specs.Books.{book-of-rows}
 
@@ -38,18 +38,19 @@ module _
     arrays = papersIn C D F T (m .«place_count») (m .«link_count») K X count (b .«next_ticket»)
 
     module _ {H L P S E I : List ℕ} where
-      ready : {w : ℕ} → arrays .book-good → Lanes C D F T H L (m .«place_count») (m .«link_count») (rowsIn K X count) count P S E I w
+      ready : {w : ℕ} → BookGood arrays → Lanes C D F T H L (m .«place_count») (m .«link_count») (rowsIn K X count) count P S E I w
           → Ready b C D F T H L (m .«place_count») (m .«link_count») K X P S E I w
       ready {w} W l =
-          let t = read-true B (arrays .yard) W in
-          let G = read-good B (arrays .yard) W in
+          let t = read-true B (W .counted) in
           record {
             lanes = subst (λ (n : ℕ). Lanes C D F T H L (m .«place_count») (m .«link_count») (rowsIn K X n) n P S E I w) (B .whole t) l;
-            formed = G .formed;
+            formed = rw (read-rows B t) at W;
             rows = B .flat .rows t;
-            whole = book-of-rows b G lb;
+            whole = book-of-rows b (read-counted B (W .counted)) lb;
           }
 
       pub surveyed : {u v : Verdict} → u ≡ v → Vetted arrays (Lanes C D F T H L (m .«place_count») (m .«link_count») (rowsIn K X count) count P S E I) v
           → Surveyed m b C D F T H L K X P S E I u
-      surveyed e = let same = given places links lp ll B in checked-as same (λ n _ h. ap verdictNumber e ∙ h) (λ M W s. (s .0, e ∙ s .1, (same .yard M, ready W (s .2))))
+      surveyed e =
+          let same = given places links lp ll B in
+          checked-as same (λ n i _ h. (ap verdictNumber e ∙ h .0, ap verdictRow e ∙ h .1)) (λ M W s. (s .0, e ∙ s .1, (same .yard M, ready W (s .2))))

@@ -9,6 +9,7 @@ use rules::Map;
 use rules::Paged;
 use rules::Place;
 use rules::Planned;
+use rules::Refusal;
 use rules::Row;
 ghost use Prim.Native.Nat.{_*_, _≤_, _<_};
 ghost use Rattle.rules.specs.Limits.{pageLimit};
@@ -284,35 +285,55 @@ fn marked_from(list: &[u8; ROOM], from: usize) -> bool {
 
 // ---- answers
 
+// The number, and beside it how many rows there are; at a refusal the row of the book that it names, or 0.
 struct Said {
     number: u8,
-    rows: usize,
+    count: usize,
+}
+
+fn done(count: usize) -> Said {
+    Said {
+        number: 0,
+        count: count,
+    }
+}
+
+fn not_done(r: Refusal) -> Said {
+    Said {
+        number: r.number(),
+        count: r.row(),
+    }
+}
+
+fn of_plan(a: Planned) -> Said {
+    match a {
+        Planned::Done(t) => done(t.count),
+        Planned::Refused(r) => not_done(r),
+    }
 }
 
 fn of_booking(a: Booked) -> Said {
     match a {
-        Booked::Done(i) => Said {
-            number: 0,
-            rows: i.count,
-        },
-        Booked::Refused(r) => Said {
-            number: r.number(),
-            rows: 0,
-        },
+        Booked::Done(i) => done(i.count),
+        Booked::Refused(r) => not_done(r),
     }
 }
 
 fn of_cancelling(a: Cancelled) -> Said {
     match a {
-        Cancelled::Done(n) => Said { number: 0, rows: n },
-        Cancelled::Refused(r) => Said {
-            number: r.number(),
-            rows: 0,
-        },
+        Cancelled::Done(n) => done(n),
+        Cancelled::Refused(r) => not_done(r),
     }
 }
 
-// What was asked, the number, the rows where it is 0, whether the memory is as it was, and whether all this is right.
+fn of_page(a: Paged) -> Said {
+    match a {
+        Paged::Done(s) => done(s.count),
+        Paged::Refused(r) => not_done(r),
+    }
+}
+
+// What was asked, the number, the rows where it is 0 or the row that it names, whether the memory is as it was, and whether all this is right.
 fn line(call: &[u8], what: &[u8], said: Said, unchanged: bool, right: bool) {
     io::write_all(1, call);
     io::write_all(1, b", ");
@@ -321,7 +342,10 @@ fn line(call: &[u8], what: &[u8], said: Said, unchanged: bool, right: bool) {
     io::print_decimal(1, said.number as u64);
     if said.number == 0 {
         io::write_all(1, b", rows ");
-        io::print_decimal(1, said.rows as u64);
+        io::print_decimal(1, said.count as u64);
+    } else if said.count > 0 {
+        io::write_all(1, b", row ");
+        io::print_decimal(1, said.count as u64);
     }
     if unchanged {
         io::write_all(1, b", unchanged");
@@ -334,12 +358,23 @@ fn line(call: &[u8], what: &[u8], said: Said, unchanged: bool, right: bool) {
     io::write_all(1, b"\n");
 }
 
-// The number and the rows are those asked for.
-fn says(said: Said, number: u8, rows: usize) -> bool {
+// The number and the count are those asked for.
+fn says(said: Said, number: u8, count: usize) -> bool {
     if said.number != number {
         return false;
     }
-    said.rows == rows
+    said.count == count
+}
+
+// The rows written to the list: none beside a refusal.
+fn written(number: u8, count: usize) -> usize
+    requires { ⌜ count ≤ 64 ⌝ }
+    ensures { λ r. ⌜ r ≤ 64 ⌝ }
+{
+    if number == 0 {
+        return count;
+    }
+    0
 }
 
 // The bytes past the rows are as they were, and those of the rows are not.
@@ -352,7 +387,7 @@ fn list_right(list: &[u8; ROOM], rows: usize) -> bool
     marked_from(list, 0) == (rows == 0)
 }
 
-// ---- the calls, each with the number and the rows that it must answer
+// ---- the calls, each with the number and the count that it must answer
 
 // A plan into a list of so many bytes.
 fn try_plan(
@@ -364,20 +399,17 @@ fn try_plan(
     second: u32,
     room: usize,
     number: u8,
-    rows: usize,
+    count: usize,
 )
     requires { ⌜ room ≤ pageLimit * rowSize ⌝ }
-    requires { ⌜ rows ≤ 64 ⌝ }
+    requires { ⌜ count ≤ 64 ⌝ }
 {
     let mut list = [MARK; ROOM];
     let a = planning::plan(m, b, start, destination, second, &mut list[..room]);
-    let said = Said {
-        number: a.number(),
-        rows: a.count(),
-    };
+    let said = of_plan(a);
     let unchanged = marked_from(&list, 0);
-    let mut right = list_right(&list, rows);
-    if !says(said, number, rows) {
+    let mut right = list_right(&list, written(number, count));
+    if !says(said, number, count) {
         right = false;
     }
     line(b"plan", what, said, unchanged, right);
@@ -394,10 +426,10 @@ fn try_page(
     ticket: u32,
     room: usize,
     number: u8,
-    rows: usize,
+    count: usize,
 )
     requires { ⌜ room ≤ pageLimit * rowSize ⌝ }
-    requires { ⌜ rows ≤ 64 ⌝ }
+    requires { ⌜ count ≤ 64 ⌝ }
 {
     let mut list = [MARK; ROOM];
     let c = Cursor {
@@ -406,13 +438,10 @@ fn try_page(
         ticket: ticket,
     };
     let a = paging::page(m, b, size, c, &mut list[..room]);
-    let said = Said {
-        number: a.number(),
-        rows: a.count(),
-    };
+    let said = of_page(a);
     let unchanged = marked_from(&list, 0);
-    let mut right = list_right(&list, rows);
-    if !says(said, number, rows) {
+    let mut right = list_right(&list, written(number, count));
+    if !says(said, number, count) {
         right = false;
     }
     line(b"page", what, said, unchanged, right);
@@ -427,7 +456,7 @@ fn try_book(
     destination: u32,
     second: u32,
     number: u8,
-    rows: usize,
+    count: usize,
     after: Book,
 ) {
     let r = booking::book(m, b, start, destination, second);
@@ -435,36 +464,38 @@ fn try_book(
     let a = r.answer;
     let said = of_booking(a);
     let mut right = same_book(left, after);
-    if !says(said, number, rows) {
+    if !says(said, number, count) {
         right = false;
     }
     line(b"book", what, said, same_book(left, b), right);
 }
 
 // A cancellation, and the book that it must leave.
-fn try_cancel(what: &[u8], m: Map, b: Book, ticket: u32, number: u8, rows: usize, after: Book) {
+fn try_cancel(what: &[u8], m: Map, b: Book, ticket: u32, number: u8, count: usize, after: Book) {
     let r = booking::cancel(m, b, ticket);
     let left = r.book;
     let a = r.answer;
     let said = of_cancelling(a);
     let mut right = same_book(left, after);
-    if !says(said, number, rows) {
+    if !says(said, number, count) {
         right = false;
     }
     line(b"cancel", what, said, same_book(left, b), right);
 }
 
-// All four calls, each refused with this number.
-fn refused(what: &[u8], m: Map, b: Book, number: u8) {
-    try_plan(what, m, b, 0, 3, 10, THREE, number, 0);
-    try_book(what, m, b, 0, 3, 10, number, 0, b);
-    try_cancel(what, m, b, 1, number, 0, b);
-    try_page(what, m, b, 2, 0, 0, 0, TWO, number, 0);
+// All four calls, each refused with this number and row.
+fn refused(what: &[u8], m: Map, b: Book, number: u8, row: usize)
+    requires { ⌜ row ≤ 64 ⌝ }
+{
+    try_plan(what, m, b, 0, 3, 10, THREE, number, row);
+    try_book(what, m, b, 0, 3, 10, number, row, b);
+    try_cancel(what, m, b, 1, number, row, b);
+    try_page(what, m, b, 2, 0, 0, 0, TWO, number, row);
 }
 
 // "1: the map breaks a rule above"
 fn bad_map(what: &[u8], m: Map) {
-    refused(what, m, both(), 1);
+    refused(what, m, both(), 1, 0);
 }
 
 // The map is good with tickets 1 and 2, as the barn is.
@@ -476,9 +507,16 @@ fn good_map(what: &[u8], m: Map) {
     try_page(what, m, b, 2, 0, 0, 0, TWO, 0, 2);
 }
 
-// "2: the book is not well formed on this map"
+// "13 keys not rising, 14 a ticket's rows are no plan, 15 a place overfilled, 16 a barred crossing"
+fn faulty(what: &[u8], b: Book, number: u8, row: usize)
+    requires { ⌜ row ≤ 64 ⌝ }
+{
+    refused(what, barn(), b, number, row);
+}
+
+// "Refusal 2 stays for counts, ranges, spare slots and the next ticket number, with row 0."
 fn bad_book(what: &[u8], b: Book) {
-    refused(what, barn(), b, 2);
+    faulty(what, b, 2, 0);
 }
 
 fn bad_row(what: &[u8], r: Row) {
@@ -587,45 +625,70 @@ fn orders() {
     let s = Row::new(0, 0, 2, 10, 0);
     let t = Row::new(0, 1, 2, 11, 0);
     let u = Row::new(3, 0, 2, 10, 3);
-    bad_book(b"rows falling by place", two(u, r));
-    bad_book(b"rows falling by entry", two(t, r));
-    bad_book(b"rows falling by ticket", two(s, r));
-    bad_book(b"row twice", two(r, r));
+    faulty(b"rows falling by place", two(u, r), 13, 2);
+    faulty(b"rows falling by entry", two(t, r), 13, 2);
+    faulty(b"rows falling by ticket", two(s, r), 13, 2);
+    faulty(b"row twice", two(r, r), 13, 2);
 }
 
 fn runs() {
     let r = Row::new(0, 0, 1, 10, 1);
     let s = Row::new(1, 10, 1, 30, 3);
     let t = Row::new(3, 30, 1, 40, 3);
-    bad_book(b"run without its last row", two(r, s));
-    bad_book(b"run without its second row", two(r, t));
+    faulty(b"run without its last row", two(r, s), 14, 1);
+    faulty(b"run without its second row", two(r, t), 14, 1);
     let again = Row::new(3, 50, 1, 60, 3);
-    bad_book(b"two runs under one ticket", two(t, again));
+    faulty(b"two runs under one ticket", two(t, again), 14, 1);
     let other = Row::new(2, 0, 1, 30, 3);
-    bad_book(b"two rows before one", three(s, other, t));
+    faulty(b"two rows before one", three(s, other, t), 14, 1);
     let back = Row::new(2, 0, 1, 30, 0);
     let there = Row::new(0, 30, 1, 40, 0);
-    bad_book(b"step without a link", two(there, back));
+    faulty(b"step without a link", two(there, back), 14, 1);
     let late = Row::new(1, 11, 1, 31, 1);
-    bad_book(b"step to a later entry", two(r, late));
+    faulty(b"step to a later entry", two(r, late), 14, 1);
     let short = Row::new(0, 0, 1, 9, 1);
     let soon = Row::new(1, 9, 1, 29, 1);
-    bad_book(b"first stay too short", two(short, soon));
-    bad_row(b"last stay too short", Row::new(3, 30, 1, 39, 3));
-    bad_row(b"last stay too long", Row::new(3, 30, 1, 41, 3));
-    bad_row(b"exit before entry", Row::new(3, 30, 1, 20, 3));
+    faulty(b"first stay too short", two(short, soon), 14, 1);
+    faulty(
+        b"last stay too short",
+        one(Row::new(3, 30, 1, 39, 3)),
+        14,
+        1,
+    );
+    faulty(b"last stay too long", one(Row::new(3, 30, 1, 41, 3)), 14, 1);
+    faulty(b"exit before entry", one(Row::new(3, 30, 1, 20, 3)), 14, 1);
 }
 
 fn conflicts() {
     let r = Row::new(3, 30, 1, 40, 3);
     let s = Row::new(3, 39, 2, 49, 3);
-    bad_book(b"overfilled place", two(r, s));
+    faulty(b"overfilled place", two(r, s), 15, 2);
     let leaves = Row::new(0, 0, 1, 30, 1);
     let enters = Row::new(0, 30, 2, 40, 0);
     let meets = Row::new(1, 0, 2, 30, 0);
     let met = Row::new(1, 30, 1, 50, 1);
     let b = four(leaves, enters, meets, met);
-    bad_book(b"head-on exchange", b);
+    faulty(b"head-on exchange", b, 16, 3);
+}
+
+// The checks go over the whole book one after the other, and of two broken runs the lower ticket's is named.
+fn checks_in_order() {
+    let short = Row::new(0, 0, 2, 9, 0);
+    let brief = Row::new(3, 30, 1, 39, 3);
+    faulty(b"two broken runs", two(short, brief), 14, 2);
+    let r = Row::new(3, 30, 1, 40, 3);
+    bad_book(b"2 before 13", two(r, Row::new(0, 0, 0, 10, 0)));
+    faulty(b"13 before 14", two(brief, short), 13, 2);
+    let long = Row::new(3, 39, 2, 50, 3);
+    faulty(b"14 before 15", two(r, long), 14, 2);
+    let b = four(
+        Row::new(0, 0, 1, 30, 1),
+        Row::new(0, 30, 2, 40, 0),
+        Row::new(1, 0, 2, 30, 0),
+        Row::new(1, 30, 1, 50, 1),
+    );
+    let crowded = with_row(b, 4, Row::new(1, 40, 3, 60, 1));
+    faulty(b"15 before 16", counted(crowded, 5, 4), 15, 5);
 }
 
 fn good_books() {
@@ -785,6 +848,7 @@ fn main() {
     orders();
     runs();
     conflicts();
+    checks_in_order();
     good_books();
     planned();
     booked();

@@ -3,7 +3,7 @@
 use Prim.Native.Nat.{ℕ, _+_, _≤_, _<_}
 use mathlib.Core.Path.{_≡_, refl, sym, ap, subst, subst₂, _∙_}
 use mathlib.Core.Logic.{inl, inr}
-use mathlib.Core.Bool.{Bool, true, false, _&&_, not}
+use mathlib.Core.Bool.{Bool, true, _&&_, not}
 use mathlib.Core.List.{List, [], _∷_, List·Memᴰ}
 use native.Mathlib.Omega.{arith}
 use lib.ListN.{length}
@@ -14,7 +14,7 @@ use Rattle.laws.specs.Lists.{index-mem}
 use Rattle.rules.specs.declared.Row.{Row}
 use Rattle.rules.specs.declared.Cursor.{Cursor}
 use Rattle.rules.specs.declared.Refusal.{Refusal}
-use Rattle.rules.specs.declared.Refusal.the-variants.{BadMap, BadBook, OffMap, OffDay, NoPlan, ShortList, FullBook, NoTickets, UnknownTicket, BadSize, BadCursor, BadFrame}
+use Rattle.rules.specs.declared.Refusal.the-variants.{OffMap, OffDay, NoPlan}
 use Rattle.rules.specs.declared.Planned.{Planned}
 use Rattle.rules.specs.declared.Planned.the-variants.{Done, Refused}
 use Rattle.rules.specs.declared.Booking.{Booking}
@@ -50,6 +50,17 @@ use Rattle.cases.specs.Past.{Past, booked, cancelled, nextTicket, rowsNo
 abbrev pub stay : ℕ → ℕ → ℕ → Stay
 stay p a b = record { place = p; entry = a; exit = b }
 
+-- why a plan is refused beside a sound map and book: a place off the map, a second after the day, no permitted plan
+pub data Reason : Type 0 where
+  off-map : Reason
+  off-day : Reason
+  no-plan : Reason
+
+abbrev refusal : Reason → Refusal
+refusal off-map = OffMap
+refusal off-day = OffDay
+refusal no-plan = NoPlan
+
 -- each beside the book of a past
 pub data Case : Type 0 where
   -- from start to dest at second s: these stays, with this arrival
@@ -57,7 +68,7 @@ pub data Case : Type 0 where
   -- from start to dest at second s these stays are permitted, with this arrival, be they chosen or not
   permits : Past → (start dest s : ℕ) → List Stay → (arrives : ℕ) → Case
   -- from start to dest at second s: refused
-  refuses : Past → (start dest s : ℕ) → Refusal → Case
+  refuses : Past → (start dest s : ℕ) → Reason → Case
   -- from start to dest at second s: these stays are booked under this ticket, with this arrival
   books : Past → (start dest s : ℕ) → List Stay → (ticket arrives : ℕ) → Case
   -- so many rows of the ticket are removed
@@ -87,24 +98,15 @@ module _ (G : Barn) where
     pub arrives : arrival plan ≡ a
 
   -- the table's condition of a refusal
-  abbrev pub Why : Past → ℕ → ℕ → ℕ → Refusal → Type 0
-  Why h start dest s BadMap = ⊥
-  Why h start dest s BadBook = ⊥
-  Why h start dest s OffMap = (start < Y .places) × (dest < Y .places) → ⊥
-  Why h start dest s OffDay = day < s
-  Why h start dest s NoPlan = (plan : List Stay) → Permitted Y (rowsNow h) start dest s plan → ⊥
-  Why h start dest s ShortList = ⊥
-  Why h start dest s FullBook = ⊥
-  Why h start dest s NoTickets = ⊥
-  Why h start dest s UnknownTicket = ⊥
-  Why h start dest s BadSize = ⊥
-  Why h start dest s BadCursor = ⊥
-  Why h start dest s BadFrame = ⊥
+  abbrev pub Why : Past → ℕ → ℕ → ℕ → Reason → Type 0
+  Why h start dest s off-map = (start < Y .places) × (dest < Y .places) → ⊥
+  Why h start dest s off-day = day < s
+  Why h start dest s no-plan = (plan : List Stay) → Permitted Y (rowsNow h) start dest s plan → ⊥
 
-  pub record Refuses (h : Past) (start dest s : ℕ) (r : Refusal) : Type 0 where
+  pub record Refuses (h : Past) (start dest s : ℕ) (r : Reason) : Type 0 where
     pub formed : WellFormed Y (rowsNow h) (nextTicket h)
     pub why : Why h start dest s r
-    pub says : (was : List ℕ) → PlanIs (arrays G) (bookNow h) start dest s was was (Refused r)
+    pub says : (was : List ℕ) → PlanIs (arrays G) (bookNow h) start dest s was was (Refused (refusal r))
 
   -- the book after is the book of the longer past
   pub record Books (h : Past) (start dest s : ℕ) (plan : List Stay) (k a : ℕ) : Type 0 where
@@ -150,19 +152,10 @@ module _ (G : Barn) where
       pastB G h ∷ sameRows (pageRows size k (rowsNow h)) rows ∷ sameAnswer more (pageMore size k (rowsNow h)) ∷ leb 1 size ∷ leb size pageLimit
       ∷ ltb (k .place) (Y .places) ∷ leb (k .entry) day ∷ ltb (k .ticket) ticketLimit ∷ []
 
-  abbrev refuseCase : Past → ℕ → ℕ → ℕ → Refusal → List Bool
-  refuseCase h start dest s BadMap = false ∷ []
-  refuseCase h start dest s BadBook = false ∷ []
-  refuseCase h start dest s OffMap = pastB G h ∷ not (ltb start (Y .places) && ltb dest (Y .places)) ∷ []
-  refuseCase h start dest s OffDay = pastB G h ∷ ltb start (Y .places) ∷ ltb dest (Y .places) ∷ ltb day s ∷ []
-  refuseCase h start dest s NoPlan = pastB G h ∷ every (askTests G start dest s) ∷ refusedB Y (rowsNow h) start dest s ∷ []
-  refuseCase h start dest s ShortList = false ∷ []
-  refuseCase h start dest s FullBook = false ∷ []
-  refuseCase h start dest s NoTickets = false ∷ []
-  refuseCase h start dest s UnknownTicket = false ∷ []
-  refuseCase h start dest s BadSize = false ∷ []
-  refuseCase h start dest s BadCursor = false ∷ []
-  refuseCase h start dest s BadFrame = false ∷ []
+  abbrev refuseCase : Past → ℕ → ℕ → ℕ → Reason → List Bool
+  refuseCase h start dest s off-map = pastB G h ∷ not (ltb start (Y .places) && ltb dest (Y .places)) ∷ []
+  refuseCase h start dest s off-day = pastB G h ∷ ltb start (Y .places) ∷ ltb dest (Y .places) ∷ ltb day s ∷ []
+  refuseCase h start dest s no-plan = pastB G h ∷ every (askTests G start dest s) ∷ refusedB Y (rowsNow h) start dest s ∷ []
 
   unfoldable pub caseB : Case → Bool
   caseB (plans h start dest s plan a) = every (planCase h start dest s plan a)
@@ -183,7 +176,8 @@ module _ (G : Barn) where
     read = rows-of-book (rowsNow h) (nextTicket h)
 
     -- a sound map and book, and then what is said over the yard and the past's rows
-    says : (S : Yard → List Row → Type 0) {refused : ℕ → Type 0} → S Y (rowsNow h) → Checked (papersOf (arrays G) (bookNow h)) refused (S (mapYard (arrays G)) (rowsOf (bookNow h)))
+    says : (S : Yard → List Row → Type 0) {refused : ℕ → ℕ → Type 0} → S Y (rowsNow h)
+        → Checked (papersOf (arrays G) (bookNow h)) refused (S (mapYard (arrays G)) (rowsOf (bookNow h)))
     says S x = sound (barn-good G) good (subst₂ S (sym (arrays-yard G)) (sym read) x)
 
     plan-says : {start dest s : ℕ} {was out : List ℕ} {r : Planned} → PlanSound Y (rowsNow h) start dest s was out r → PlanIs (arrays G) (bookNow h) start dest s was out r
@@ -223,14 +217,14 @@ module _ (G : Barn) where
       record { permitted = subst₂ (λ x y. Permitted Y (rowsNow h) x dest y plan) p q P; arrives = eqb-true (arrival plan) a (holds ts t 4) }
 
   -- a start or destination off the map is refused beside any book
-  pub off-map : (h : Past) (start dest s : ℕ) → pastB G h ≡ true → ((start < Y .places) × (dest < Y .places) → ⊥) → Refuses h start dest s OffMap
-  off-map h start dest s t off =
+  pub off-map-refuses : (h : Past) (start dest s : ℕ) → pastB G h ≡ true → ((start < Y .places) × (dest < Y .places) → ⊥) → Refuses h start dest s off-map
+  off-map-refuses h start dest s t off =
       let W = past-formed G h t in
       record { formed = W; why = off; says = λ was. plan-says h W (inl (off, record { code = refl; arrives = refl; counts = refl; holds = refl })) }
 
-  off-day : (h : Past) (start dest s : ℕ) → every (refuseCase h start dest s OffDay) ≡ true → Refuses h start dest s OffDay
-  off-day h start dest s t =
-      let ts = refuseCase h start dest s OffDay in
+  off-day-refuses : (h : Past) (start dest s : ℕ) → every (refuseCase h start dest s off-day) ≡ true → Refuses h start dest s off-day
+  off-day-refuses h start dest s t =
+      let ts = refuseCase h start dest s off-day in
       let W = past-formed G h (holds ts t 0) in
       let on = ltb-true start (Y .places) (holds ts t 1) in
       let to = ltb-true dest (Y .places) (holds ts t 2) in
@@ -241,9 +235,9 @@ module _ (G : Barn) where
         says = λ was. plan-says h W (inr ((on, to), inl (λ d. omega arith, record { code = refl; arrives = refl; counts = refl; holds = refl })));
       }
 
-  no-way : (h : Past) (start dest s : ℕ) → every (refuseCase h start dest s NoPlan) ≡ true → Refuses h start dest s NoPlan
-  no-way h start dest s t =
-      let ts = refuseCase h start dest s NoPlan in
+  no-plan-refuses : (h : Past) (start dest s : ℕ) → every (refuseCase h start dest s no-plan) ≡ true → Refuses h start dest s no-plan
+  no-plan-refuses h start dest s t =
+      let ts = refuseCase h start dest s no-plan in
       let W = past-formed G h (holds ts t 0) in
       let ask = holds ts t 1 in
       let on = ltb-true start (Y .places) (holds (askTests G start dest s) ask 0) in
@@ -256,24 +250,13 @@ module _ (G : Barn) where
         says = λ was. plan-says h W (inr ((on, to), inr (d, inl (λ x. none (x .0) (x .1), record { code = refl; arrives = refl; counts = refl; holds = refl }))));
       }
 
-  no-test : {X : Type 0} → every (false ∷ []) ≡ true → X
-  no-test t = absurd (not-both (holds (false ∷ []) t 0) refl)
-
-  refuses-mean : (h : Past) (start dest s : ℕ) (r : Refusal) → every (refuseCase h start dest s r) ≡ true → Refuses h start dest s r
-  refuses-mean h start dest s BadMap t = no-test t
-  refuses-mean h start dest s BadBook t = no-test t
-  refuses-mean h start dest s OffMap t =
-      let ts = refuseCase h start dest s OffMap in
-      off-map h start dest s (holds ts t 0) (λ on. not-both (and-in (lt-ltb start (Y .places) (on .0)) (lt-ltb dest (Y .places) (on .1))) (not-true (ltb start (Y .places) && ltb dest (Y .places)) (holds ts t 1)))
-  refuses-mean h start dest s OffDay t = off-day h start dest s t
-  refuses-mean h start dest s NoPlan t = no-way h start dest s t
-  refuses-mean h start dest s ShortList t = no-test t
-  refuses-mean h start dest s FullBook t = no-test t
-  refuses-mean h start dest s NoTickets t = no-test t
-  refuses-mean h start dest s UnknownTicket t = no-test t
-  refuses-mean h start dest s BadSize t = no-test t
-  refuses-mean h start dest s BadCursor t = no-test t
-  refuses-mean h start dest s BadFrame t = no-test t
+  refuses-mean : (h : Past) (start dest s : ℕ) (r : Reason) → every (refuseCase h start dest s r) ≡ true → Refuses h start dest s r
+  refuses-mean h start dest s off-map t =
+      let ts = refuseCase h start dest s off-map in
+      off-map-refuses h start dest s (holds ts t 0)
+      (λ on. not-both (and-in (lt-ltb start (Y .places) (on .0)) (lt-ltb dest (Y .places) (on .1))) (not-true (ltb start (Y .places) && ltb dest (Y .places)) (holds ts t 1)))
+  refuses-mean h start dest s off-day t = off-day-refuses h start dest s t
+  refuses-mean h start dest s no-plan t = no-plan-refuses h start dest s t
 
   books-mean : (h : Past) (start dest s : ℕ) (plan : List Stay) (k a : ℕ) → every (bookCase h start dest s plan k a) ≡ true → Books h start dest s plan k a
   unfolding pastB

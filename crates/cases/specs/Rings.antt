@@ -4,11 +4,11 @@ use Prim.Native.Nat.{ℕ, _+_}
 use mathlib.Core.Path.{_≡_, refl}
 use mathlib.Core.Bool.{Bool, true}
 use mathlib.Core.List.{List, [], _∷_, List·Memᴰ}
-use Rattle.rules.specs.declared.Refusal.the-variants.{NoPlan}
 use Rattle.rules.specs.Plan.{Stay}
 use Rattle.cases.specs.Checks.{allB, all-out}
 use Rattle.cases.specs.Maps.{place, link, Barn}
 use Rattle.cases.specs.Past.{Past, empty, booked, cancelled}
+use Rattle.cases.specs.Case.Reason.{no-plan}
 use Rattle.cases.specs.Case.{stay, Case, plans, refuses, books, Means, tableB, table-means}
 
 -- p:0-t, q:t-(t+10)
@@ -85,7 +85,7 @@ narrowCases =
     books empty 0 1 0 (going 0 1 10) 1 20
     ∷ books one 1 2 0 (going 1 2 10) 2 20
     -- 2 to 0 at 0: refused 5.
-    ∷ refuses two 2 0 0 NoPlan
+    ∷ refuses two 2 0 0 no-plan
     ∷ []
 
 -- places 0 to 3 capacity 2 duration 10; links 0-1, 1-2, 2-3, 3-0
@@ -121,7 +121,7 @@ chainCases =
     ∷ books two 2 3 0 (going 2 3 10) 3 20
     -- 3 to 4 at 0, a fourth crossing at 10 that closes no ring: 3:0-10, 4:10-20. 3 to 0 at 0: refused 5.
     ∷ plans three 3 4 0 (going 3 4 10) 20
-    ∷ refuses three 3 0 0 NoPlan
+    ∷ refuses three 3 0 0 no-plan
     ∷ []
 
 -- place 0 capacity 4; 1, 2, 3, 4 capacity 2; all durations 10; links 0-1, 1-2, 2-0, 0-3, 3-4, 4-0

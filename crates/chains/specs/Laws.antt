@@ -17,7 +17,7 @@ use Rattle.rules.specs.RowLaws.{row-eq}
 use Rattle.rules.specs.Plan.{Stay, stayAt, Plan, stayRow, runRows}
 use Rattle.rules.specs.Book.{Whole}
 use Rattle.lanes.specs.Yards.{YardRules}
-use Rattle.chains.specs.Test.{AllWhole, Last, Follows, Successor, RowOk, Tested}
+use Rattle.chains.specs.Test.{Last, Follows, Successor, RowOk, Tested}
 
 -- an element of a list for which P holds, or none
 find : {A : Type 0} (P : A → Type 0) → ((x : A) → Dec (P x)) → (l : List A) → ((x : A) × List·Memᴰ x l × P x) ⊎ ((x : A) → List·Memᴰ x l → P x → ⊥)
@@ -73,20 +73,24 @@ run-before x (y ∷ ys) R s m = go (List·Memᴰ·cases-cons m) (λ d. run-befor
 abbrev stayOf : Row → Stay
 stayOf r = record { place = r .place; entry = r .entry; exit = r .exit }
 
-module _ {Y : Yard} (rules : YardRules Y) {l : List Row} (T : Tested Y l) (k : ℕ) where
+module _ {Y : Yard} (rules : YardRules Y) {l : List Row} {k : ℕ} (T : Tested Y l k) where
   abbrev Mine : Row → Type 0
   Mine r = List·Memᴰ r l × (r .ticket ≡ k)
 
-  rises : (r : Row) → List·Memᴰ r l → r .entry < r .exit
-  rises r m = omega (arith, T .each r m .lasts, rules .long (r .place))
+  ok : (r : Row) → Mine r → RowOk Y l r
+  ok r m = T .each r (m .0) (m .1)
+
+  rises : (r : Row) → Mine r → r .entry < r .exit
+  rises r m = omega (arith, ok r m .lasts, rules .long (r .place))
 
   -- going on from any row ends in a last row
   to-last : (n : ℕ) (r : Row) → day < r .entry + n → Mine r → (e : Row) × Mine e × Last e
-  to-last zero r h m = absurd (omega (arith, rises r (m .0), T .each r (m .0) .in-day))
-  to-last (suc n) r h m = ⊎-elim (λ (e : r .next ≡ r .place). (r, m, e)) (λ (ne : r .next ≡ r .place → ⊥). on (λ s. to-last n s) (T .each r (m .0) .joined ne)) (eq-or-ne (r .next) (r .place))
+  to-last zero r h m = absurd (omega (arith, rises r m, ok r m .in-day))
+  to-last (suc n) r h m =
+      ⊎-elim (λ (e : r .next ≡ r .place). (r, m, e)) (λ (ne : r .next ≡ r .place → ⊥). on (λ s. to-last n s) (ok r m .joined ne)) (eq-or-ne (r .next) (r .place))
     where
       on : ((s : Row) → day < s .entry + n → Mine s → (e : Row) × Mine e × Last e) → Successor l r → (e : Row) × Mine e × Last e
-      on ih s = ih (s .row) (omega (arith, rises r (m .0), s .follows .entry)) (s .in-book, s .follows .ticket ∙ m .1)
+      on ih s = ih (s .row) (omega (arith, rises r m, s .follows .entry)) (s .in-book, s .follows .ticket ∙ m .1)
 
   record Complete : Type 0 where
     first : Row
@@ -101,8 +105,10 @@ module _ {Y : Yard} (rules : YardRules Y) {l : List Row} (T : Tested Y l) (k : �
   back (suc n) x rest h R M = ⊎-elim (more (λ w c. back n w c)) (λ (f : (w : Row) → List·Memᴰ w l → Before x w → ⊥). record { first = x; rest = rest; run = R; mine = M; none-before = f }) (find (Before x) (before? x) l)
     where
       more : ((w : Row) (c : List Row) → w .entry < n → Run (w ∷ c) → ((r : Row) → List·Memᴰ r (w ∷ c) → Mine r) → Complete) → (w : Row) × List·Memᴰ w l × Before x w → Complete
-      more ih t = ih (t .0) (x ∷ rest) (omega (arith, rises (t .0) (t .1), t .2 .to .entry)) (t .2 .goes-on, t .2 .to, R)
-          (λ r m. ⊎-elim (λ (e : r ≡ t .0). subst Mine (sym e) (t .1, sym (t .2 .to .ticket) ∙ M x (List·Memᴰ·head refl) .1)) (λ (d : List·Memᴰ r (x ∷ rest)). M r d) (List·Memᴰ·cases-cons m))
+      more ih t =
+          let w : Mine (t .0) = (t .1, sym (t .2 .to .ticket) ∙ M x (List·Memᴰ·head refl) .1) in
+          ih (t .0) (x ∷ rest) (omega (arith, rises (t .0) w, t .2 .to .entry)) (t .2 .goes-on, t .2 .to, R)
+          (λ r m. ⊎-elim (λ (e : r ≡ t .0). subst Mine (sym e) w) (λ (d : List·Memᴰ r (x ∷ rest)). M r d) (List·Memᴰ·cases-cons m))
 
   complete : (r : Row) → Mine r → Complete
   complete r m = from (to-last (suc day) r (omega arith) m)
@@ -116,23 +122,28 @@ module _ {Y : Yard} (rules : YardRules Y) {l : List Row} (T : Tested Y l) (k : �
 
     -- every row of the ticket is there
     covered : (n : ℕ) (r : Row) → day < r .entry + n → Mine r → List·Memᴰ r chain
-    covered zero r h m = absurd (omega (arith, rises r (m .0), T .each r (m .0) .in-day))
-    covered (suc n) r h m = ⊎-elim (λ (e : r .next ≡ r .place). end e (run-last chain (C .run))) (λ (ne : r .next ≡ r .place → ⊥). on (λ s. covered n s) ne (T .each r (m .0) .joined ne)) (eq-or-ne (r .next) (r .place))
+    covered zero r h m = absurd (omega (arith, rises r m, ok r m .in-day))
+    covered (suc n) r h m =
+        ⊎-elim (λ (e : r .next ≡ r .place). end e (run-last chain (C .run))) (λ (ne : r .next ≡ r .place → ⊥). on (λ s. covered n s) ne (ok r m .joined ne))
+        (eq-or-ne (r .next) (r .place))
       where
         end : Last r → (e : Row) × List·Memᴰ e chain × Last e → List·Memᴰ r chain
         end e t =
             let u = C .mine (t .0) (t .1) in
-            subst (λ (x : Row). List·Memᴰ x chain) (sym (T .one-last r (t .0) (m .0) (u .0) e (t .2) (m .1 ∙ sym (u .1)))) (t .1)
+            subst (λ (x : Row). List·Memᴰ x chain) (sym (T .one-last r (t .0) (m .0) (u .0) (m .1) (u .1) e (t .2))) (t .1)
 
         inside : (ne : Last r → ⊥) (s : Row) → Follows r s → (s ≡ C .first) ⊎ ((w : Row) × List·Memᴰ w chain × Before s w) → List·Memᴰ r chain
         inside ne s f (inl e) = absurd (C .none-before r (m .0) (record { goes-on = ne; to = subst (Follows r) e f }))
         inside ne s f (inr t) =
+            let u = C .mine (t .0) (t .1) in
             subst (λ (x : Row). List·Memᴰ x chain)
-            (sym (T .one-before r (t .0) (m .0) (C .mine (t .0) (t .1) .0) ne (t .2 .goes-on) (sym (f .place) ∙ t .2 .to .place) (sym (f .entry) ∙ t .2 .to .entry) (sym (f .ticket) ∙ t .2 .to .ticket)))
+            (sym (T .one-before r (t .0) (m .0) (u .0) (m .1) (u .1) ne (t .2 .goes-on) (sym (f .place) ∙ t .2 .to .place) (sym (f .entry) ∙ t .2 .to .entry)))
             (t .1)
 
         on : ((s : Row) → day < s .entry + n → Mine s → List·Memᴰ s chain) → (Last r → ⊥) → Successor l r → List·Memᴰ r chain
-        on ih ne s = inside ne (s .row) (s .follows) (run-before (C .first) (C .rest) (C .run) (s .row) (ih (s .row) (omega (arith, rises r (m .0), s .follows .entry)) (s .in-book, s .follows .ticket ∙ m .1)))
+        on ih ne s =
+            let d = ih (s .row) (omega (arith, rises r m, s .follows .entry)) (s .in-book, s .follows .ticket ∙ m .1) in
+            inside ne (s .row) (s .follows) (run-before (C .first) (C .rest) (C .run) (s .row) d)
 
 -- a fact for each index, from the first and the others
 by-index : (P : ℕ → Type 0) (n : ℕ) → P 0 → ((i : ℕ) → i < n → P (suc i)) → (i : ℕ) → i < suc n → P i
@@ -185,19 +196,19 @@ run-rows k (x ∷ (y ∷ ys)) R f =
     let h : stayRow k (stayOf x) (y .place) ≡ x = row-eq refl refl (sym (f x (List·Memᴰ·head refl))) refl (R .1 .place) in
     ap₂ (λ (r : Row) (l : List Row). r ∷ l) h (run-rows k (y ∷ ys) (R .2) (λ r m. f r (List·Memᴰ·tail m)))
 
--- where the test is passed, each ticket's rows are a whole plan
-pub tested-whole : {Y : Yard} → YardRules Y → {l : List Row} → Tested Y l → AllWhole Y l
-tested-whole {Y} rules {l} T r m = go (complete rules T (r .ticket) r (m, refl))
+-- where the test is passed, the ticket's rows are a whole plan
+pub tested-whole : {Y : Yard} → YardRules Y → {l : List Row} {k : ℕ} → Tested Y l k → (r : Row) → List·Memᴰ r l → r .ticket ≡ k → Whole Y l k
+tested-whole {Y} rules {l} {k} T r m e = go (complete rules T r (m, e))
   where
-    go : Complete rules T (r .ticket) → Whole Y l (r .ticket)
+    go : Complete rules T → Whole Y l k
     go C =
         let c : List Row = C .first ∷ C .rest in
-        let e : runRows (r .ticket) (map stayOf c) ≡ c = run-rows (r .ticket) c (C .run) (λ s d. C .mine s d .1) in
+        let e : runRows k (map stayOf c) ≡ c = run-rows k c (C .run) (λ s d. C .mine s d .1) in
         record {
           plan = map stayOf c;
-          is-plan = run-plan c (C .run) (λ s d. T .each s (C .mine s d .0));
+          is-plan = run-plan c (C .run) (λ s d. ok rules T s (C .mine s d));
           booked = λ s d. C .mine s (subst (λ (x : List Row). List·Memᴰ s x) e d) .0;
-          only = λ s d q. subst (λ (x : List Row). List·Memᴰ s x) (sym e) (covered rules T (r .ticket) C (suc day) s (omega arith) (d, q));
+          only = λ s d q. subst (λ (x : List Row). List·Memᴰ s x) (sym e) (covered rules T C (suc day) s (omega arith) (d, q));
         }
 
 -- ---- from the plan to the test
@@ -291,12 +302,12 @@ module _ {Y : Yard} (rules : YardRules Y) (k : ℕ) where
   same-last (x ∷ (y ∷ ys)) P r s (List·Memᴰ·tail m) (List·Memᴰ·head f) a b = absurd (apart (x .place) (y .place) (P .goes 0 (omega arith)) (subst Last f b))
   same-last (x ∷ (y ∷ ys)) P r s (List·Memᴰ·tail m) (List·Memᴰ·tail n) a b = same-last (y ∷ ys) (plan-tail P) r s m n a b
 
--- where each ticket's rows are a whole plan, the test is passed
-pub whole-tested : {Y : Yard} → YardRules Y → {l : List Row} → AllWhole Y l → Tested Y l
-whole-tested {Y} rules {l} A = record {
-  each = λ r m. let W = A r m in widen (W .booked) (plan-ok rules (r .ticket) (W .plan) (W .is-plan) r (W .only r m refl));
-  one-before = λ r s m n a b p q t. let W = A r m in same-exit rules (r .ticket) (W .plan) (W .is-plan) r s (W .only r m refl) (W .only s n (sym t)) q;
-  one-last = λ r s m n a b t. let W = A r m in same-last rules (r .ticket) (W .plan) (W .is-plan) r s (W .only r m refl) (W .only s n (sym t)) a b;
+-- where the ticket's rows are a whole plan, the test is passed
+pub whole-tested : {Y : Yard} → YardRules Y → {l : List Row} {k : ℕ} → Whole Y l k → Tested Y l k
+whole-tested {Y} rules {l} {k} W = record {
+  each = λ r m e. widen (W .booked) (plan-ok rules k (W .plan) (W .is-plan) r (W .only r m e));
+  one-before = λ r s m n d e a b p q. same-exit rules k (W .plan) (W .is-plan) r s (W .only r m d) (W .only s n e) q;
+  one-last = λ r s m n d e a b. same-last rules k (W .plan) (W .is-plan) r s (W .only r m d) (W .only s n e) a b;
 }
 
 -- along a plan's rows exits rise strictly, so that no row stands twice: the same members without repeats are a rearrangement

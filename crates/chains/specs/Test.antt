@@ -1,15 +1,11 @@
--- The test that each ticket's rows are a whole plan, row by row.
-use Prim.Native.Nat.{_+_, _≤_, _<_}
+-- The test that a ticket's rows are a whole plan, row by row.
+use Prim.Native.Nat.{ℕ, _+_, _≤_, _<_}
 use mathlib.Core.Path.{_≡_}
 use mathlib.Core.Bool.{true}
 use mathlib.Core.List.{List, List·Memᴰ}
 use Rattle.rules.specs.declared.Row.{Row}
 use Rattle.rules.specs.Limits.{day}
 use Rattle.rules.specs.Map.{Yard}
-use Rattle.rules.specs.Book.{Whole}
-
-abbrev pub AllWhole : Yard → List Row → Type 0
-AllWhole Y l = (r : Row) → List·Memᴰ r l → Whole Y l (r .ticket)
 
 abbrev pub Last : Row → Type 0
 Last r = r .next ≡ r .place
@@ -34,10 +30,11 @@ pub record RowOk (Y : Yard) (l : List Row) (r : Row) : Type 0 where
   pub linked : (Last r → ⊥) → Y .link (r .place) (r .next) ≡ true
   pub joined : (Last r → ⊥) → Successor l r
 
-pub record Tested (Y : Yard) (l : List Row) : Type 0 where
-  pub each : (r : Row) → List·Memᴰ r l → RowOk Y l r
-  -- no two rows have the same successor
-  pub one-before : (r s : Row) → List·Memᴰ r l → List·Memᴰ s l → (Last r → ⊥) → (Last s → ⊥)
-      → r .next ≡ s .next → r .exit ≡ s .exit → r .ticket ≡ s .ticket → r ≡ s
-  -- no two last rows have the same ticket
-  pub one-last : (r s : Row) → List·Memᴰ r l → List·Memᴰ s l → Last r → Last s → r .ticket ≡ s .ticket → r ≡ s
+-- what is asked of the rows of ticket k
+pub record Tested (Y : Yard) (l : List Row) (k : ℕ) : Type 0 where
+  pub each : (r : Row) → List·Memᴰ r l → r .ticket ≡ k → RowOk Y l r
+  -- no two of them have the same successor
+  pub one-before : (r s : Row) → List·Memᴰ r l → List·Memᴰ s l → r .ticket ≡ k → s .ticket ≡ k → (Last r → ⊥) → (Last s → ⊥)
+      → r .next ≡ s .next → r .exit ≡ s .exit → r ≡ s
+  -- no two of them are last
+  pub one-last : (r s : Row) → List·Memᴰ r l → List·Memᴰ s l → r .ticket ≡ k → s .ticket ≡ k → Last r → Last s → r ≡ s

@@ -16,7 +16,7 @@ use Rattle.rules.specs.Rows.{load, rowAt}
 use Rattle.rules.specs.Plan.{Stay, Permitted, arrival, runRows}
 use Rattle.rules.specs.Chosen.{Chosen}
 use Rattle.rules.specs.Bytes.{written, records}
-use Rattle.rules.specs.Answer.{number, PlanRefused, PlanSound}
+use Rattle.rules.specs.Answer.{number, faultRow, Planning, PlanSound}
 use Rattle.lanes.specs.Yards.{YardRules}
 use Rattle.lanes.specs.Chosen.{chosen-best}
 use Rattle.flat.specs.Links.{group-place}
@@ -65,8 +65,8 @@ module _ {Y : Yard} {rows : List Row} {start dest s : ℕ} {was out : List ℕ} 
         plan-done h ea ec eo = inr (on, inr (day, inr (some Y rows start dest s rules (on .1) booked C, (plan, C, inr (h, record { code = refl; arrives = sym ea; counts = sym ec; holds = eo })))))
 
 -- refused at the gate
-pub plan-refused : {was out : List ℕ} {x : Refusal} → was ≡ out → (n : ℕ) → number x ≡ n → PlanRefused n was out (Refused x)
-plan-refused e n h = record { code = h; arrives = refl; counts = refl; holds = sym e }
+pub plan-refused : {was out : List ℕ} {x : Refusal} → was ≡ out → (n i : ℕ) → number x ≡ n → faultRow x ≡ i → Planning n 0 i was out (Refused x)
+plan-refused e n i h k = record { code = h; arrives = refl; counts = k; holds = sym e }
 
 -- the number of stays of a route
 pub route-long : {D P lab path : List ℕ} {r : ℕ} → PathFits D P lab path r → length (planOf D P lab (take r path)) ≡ r

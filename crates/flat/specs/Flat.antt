@@ -10,7 +10,7 @@ use Rattle.rules.specs.declared.Link.{Link}
 use Rattle.rules.specs.declared.Row.{Row}
 use Rattle.rules.specs.Map.{Yard, yardOf, MapRules}
 use Rattle.rules.specs.Rows.{row}
-use Rattle.rules.specs.Book.{WellFormed}
+use Rattle.rules.specs.Book.{Counted}
 use Rattle.rules.specs.Gate.{Papers}
 use Rattle.rules.specs.Window.{Span}
 
@@ -96,7 +96,7 @@ pub record KeysRise (K : List ℕ) (count : ℕ) : Type 0 where
 abbrev pub papersIn : (C D F T : List ℕ) (n k : ℕ) (K X : List ℕ) (count next-ticket : ℕ) → Papers
 papersIn C D F T n k K X count next-ticket = record {
   map-good = MapRules (placesIn C D n) (linksIn F T k);
-  book-good = WellFormed (yardIn C D n F T k) (rowsIn K X count) next-ticket;
+  counted = Counted (yardIn C D n F T k) (rowsIn K X count) next-ticket;
   yard = yardIn C D n F T k;
   rows = rowsIn K X count;
 }

@@ -1,7 +1,7 @@
 -- A book's rows as arrays of numbers. A row in range is told by its key and its tail, so that the list which the arrays stand for is the book's; a row
 -- out of range or a used slot past the count is none of a well-formed book.
 use Prim.Native.Nat.{ℕ, _+_, _≤_, _<_}
-use mathlib.Core.Path.{_≡_, refl, sym, subst, _∙_}
+use mathlib.Core.Path.{_≡_, refl, subst, _∙_}
 use mathlib.Core.Bool.{Bool, true, false}
 use mathlib.Core.List.{List}
 use native.Mathlib.Omega.{arith}
@@ -17,7 +17,7 @@ use Rattle.rules.specs.Map.{Yard}
 use Rattle.rules.specs.Rows.{noRow, rowAt}
 use Rattle.rules.specs.RowLaws.{row-eq}
 use Rattle.rules.specs.Bytes.{fieldLimit}
-use Rattle.rules.specs.Book.{Ranges, WellFormed, rowsOf, GoodBook}
+use Rattle.rules.specs.Book.{Ranges, rowsOf, CountedBook}
 use Rattle.flat.specs.Flat.{keyOf, keyLimit, tailOf, rowOf, rowsIn, Packed}
 use Rattle.flat.specs.Laws.{place-of-key, entry-of-key, ticket-of-key, exit-of-tail, next-of-tail}
 use Rattle.flatten.specs.Lists.{table-take, set-all}
@@ -36,13 +36,13 @@ pub record RowsFlat (b : Book) (K X : List ℕ) : Type 0 where
   pub len-key : length K ≡ 1024
   pub len-tail : length X ≡ 1024
 
--- the whole book, and what the answer r tells: with the answer true it is well formed exactly when the rows in the arrays are
+-- the whole book, and what the answer r tells: with the answer true the arrays hold all of it, and for a book whose counts and numbers are good it is true
 pub record BookFlat (b : Book) (K X : List ℕ) (r : Bool) : Type 0 where
   pub packed : Packed K
   pub fits : r ≡ true → b .count ≤ rowLimit
   pub rows : r ≡ true → rowsIn K X (b .count) ≡ rowsOf b
-  pub good : r ≡ true → (Y : Yard) → WellFormed Y (rowsIn K X (b .count)) (b .«next_ticket») → GoodBook Y b
-  pub formed : (Y : Yard) → GoodBook Y b → (r ≡ true) × WellFormed Y (rowsIn K X (b .count)) (b .«next_ticket»)
+  pub spare : r ≡ true → (i : ℕ) → b .count ≤ i → i < rowLimit → rowAt (b .rows) i ≡ noRow
+  pub told : (Y : Yard) → CountedBook Y b → r ≡ true
   pub len-key : length K ≡ 1024
   pub len-tail : length X ≡ 1024
 
@@ -57,11 +57,11 @@ row-told r R hn =
     (exit-of-tail (r .exit) (r .next) hn) (next-of-tail (r .exit) (r .next) hn)
 
 -- a row of a well-formed book is in range
-pub good-range : (Y : Yard) (b : Book) → length (b .rows) ≡ 1024 → GoodBook Y b → (i : ℕ) → i < b .count → InRange (rowAt (b .rows) i)
-good-range Y b l G i h =
+counted-range : {Y : Yard} (b : Book) → length (b .rows) ≡ 1024 → CountedBook Y b → (i : ℕ) → i < b .count → InRange (rowAt (b .rows) i)
+counted-range {Y} b l G i h =
     let long : length (rowsOf b) ≡ b .count = length-take-le (b .count) (b .rows) (omega (arith, G .fits)) in
-    let R : Ranges Y (b .«next_ticket») (rowAt (b .rows) i) = subst (Ranges Y (b .«next_ticket»)) (getD-take (b .count) (b .rows) i noRow h) (G .formed .ranges i (omega arith)) in
-    record { entry = R .entry; exit = R .exit; ticket = omega (arith, R .ticket-to, G .formed .ticket-to) }
+    let R : Ranges Y (b .«next_ticket») (rowAt (b .rows) i) = subst (Ranges Y (b .«next_ticket»)) (getD-take (b .count) (b .rows) i noRow h) (G .counts .ranges i (omega arith)) in
+    record { entry = R .entry; exit = R .exit; ticket = omega (arith, R .ticket-to, G .counts .ticket-to) }
 
 -- ---- the loop over the rows
 
@@ -107,20 +107,20 @@ module _ (b : Book) where
       len-tail = P .len-tail;
     }
 
-    refused : {n : ℕ} → RowsTo b K X n → ((Y : Yard) → GoodBook Y b → ⊥) → BookFlat b K X false
+    refused : {n : ℕ} → RowsTo b K X n → ((Y : Yard) → CountedBook Y b → ⊥) → BookFlat b K X false
     refused P bad = record {
       packed = P .packed;
       fits = λ q. absurd (not-both q refl);
       rows = λ q. absurd (not-both q refl);
-      good = λ q. absurd (not-both q refl);
-      formed = λ Y G. absurd (bad Y G);
+      spare = λ q. absurd (not-both q refl);
+      told = λ Y G. absurd (bad Y G);
       len-key = P .len-key;
       len-tail = P .len-tail;
     }
 
     -- a row is out of range
     pub rows-bad : {n : ℕ} → RowsTo b K X n → (i : ℕ) → i < b .count → (InRange (rowAt (b .rows) i) → ⊥) → BookFlat b K X false
-    rows-bad P i h f = refused P (λ Y G. f (good-range Y b l G i h))
+    rows-bad P i h f = refused P (λ Y G. f (counted-range b l G i h))
 
     -- the count is out of range
     pub rows-many : {n : ℕ} → RowsTo b K X n → rowLimit < b .count → BookFlat b K X false
@@ -151,8 +151,8 @@ module _ (b : Book) {K X : List ℕ} where
     packed = Z .flat .packed;
     fits = λ _. Z .flat .fits;
     rows = λ _. Z .flat .rows;
-    good = λ q. absurd (not-both q refl);
-    formed = λ Y G. absurd (f (G .spare i (Z .past) h));
+    spare = λ q. absurd (not-both q refl);
+    told = λ Y G. absurd (f (G .spare i (Z .past) h));
     len-key = Z .flat .len-key;
     len-tail = Z .flat .len-tail;
   }
@@ -165,8 +165,8 @@ module _ (b : Book) {K X : List ℕ} where
         packed = F .packed;
         fits = λ _. F .fits;
         rows = λ _. F .rows;
-        good = λ _ Y W. record { fits = F .fits; spare = Z .zeros; formed = subst (λ rows. WellFormed Y rows (b .«next_ticket»)) (F .rows) W };
-        formed = λ Y G. (refl, subst (λ rows. WellFormed Y rows (b .«next_ticket»)) (sym (F .rows)) (G .formed));
+        spare = λ _. Z .zeros;
+        told = λ _ _. refl;
         len-key = F .len-key;
         len-tail = F .len-tail;
       }

@@ -6,12 +6,12 @@ use lib.ListN.{length}
 use Rattle.rules.specs.declared.Map.{Map}
 use Rattle.rules.specs.declared.Book.{Book}
 use Rattle.rules.specs.Map.{Yard, mapYard}
-use Rattle.rules.specs.Book.{GoodBook}
+use Rattle.rules.specs.Book.{CountedBook}
 use Rattle.rules.specs.Gate.{Papers, papersOf}
 use Rattle.rules.specs.GateLaws.{SamePapers}
 use Rattle.flat.specs.Flat.{papersIn}
 use Rattle.flatten.specs.Maps.{PlacesFlat, LinksFlat, good-flat, flat-good, yard-same}
-use Rattle.flatten.specs.Read.{BookRead, read-true, read-good, good-read, read-rows}
+use Rattle.flatten.specs.Read.{BookRead, read-rows, read-true, read-counted, counted-read}
 
 module _ {m : Map} {b : Book} {C D F T K X : List ℕ} {count : ℕ} (P : PlacesFlat m C D) (L : LinksFlat m F T) (places : length (m .places) ≡ 256) (links : length (m .links) ≡ 1024)
     (B : BookRead b K X count) where
@@ -25,8 +25,8 @@ module _ {m : Map} {b : Book} {C D F T K X : List ℕ} {count : ℕ} (P : Places
   given = record {
     map-to = flat-good P L places links;
     map-of = good-flat P L places links;
-    book-to = λ M W. subst (λ (z : Yard). GoodBook z b) (same-yard M) (read-good B (arrays .yard) W);
-    book-of = λ M G. good-read B (arrays .yard) (subst (λ (z : Yard). GoodBook z b) (sym (same-yard M)) G);
+    counted-to = λ M C. subst (λ (z : Yard). CountedBook z b) (same-yard M) (read-counted B C);
+    counted-of = λ M G. counted-read B (subst (λ (z : Yard). CountedBook z b) (sym (same-yard M)) G);
     yard = same-yard;
-    rows = λ M W. read-rows B (read-true B (arrays .yard) W);
+    rows = λ M C. read-rows B (read-true B C);
   }

@@ -1,6 +1,6 @@
--- A book read into arrays, or given 1,025 rows where it could not be: it is well formed there exactly where the book is good.
+-- A book read into arrays, or given 1,025 rows where it could not be: its counts and numbers are good there exactly where the book's are.
 use Prim.Native.Nat.{ℕ}
-use mathlib.Core.Path.{_≡_, refl, sym, ap, subst, _∙_}
+use mathlib.Core.Path.{_≡_, refl, ap, _∙_}
 use mathlib.Core.Logic.{⊎-elim}
 use mathlib.Core.Bool.{Bool, true, false}
 use mathlib.Core.List.{List}
@@ -8,7 +8,7 @@ use native.Mathlib.Omega.{arith}
 use Rattle.laws.specs.Tests.{true-or-false, not-both}
 use Rattle.rules.specs.declared.Book.{Book}
 use Rattle.rules.specs.Map.{Yard}
-use Rattle.rules.specs.Book.{WellFormed, GoodBook, rowsOf}
+use Rattle.rules.specs.Book.{Counted, CountedBook, rowsOf}
 use Rattle.flat.specs.Flat.{rowsIn}
 use Rattle.flat.specs.Laws.{rows-long}
 use Rattle.flatten.specs.Books.{BookFlat}
@@ -28,19 +28,18 @@ module _ {b : Book} {K X : List ℕ} where
   read-none F = record { read = false; flat = F; whole = λ q. absurd (not-both q refl); none = λ _. refl }
 
 module _ {b : Book} {K X : List ℕ} {count : ℕ} (R : BookRead b K X count) where
-  -- 1,025 rows are too many
-  pub read-true : (Y : Yard) → WellFormed Y (rowsIn K X count) (b .«next_ticket») → R .read ≡ true
-  read-true Y W = ⊎-elim (λ t. t) (λ f. absurd (omega (arith, W .few, rows-long K X count, R .none f))) (true-or-false (R .read))
-
-  pub read-good : (Y : Yard) → WellFormed Y (rowsIn K X count) (b .«next_ticket») → GoodBook Y b
-  read-good Y W =
-      let t = read-true Y W in
-      R .flat .good t Y (subst (λ n. WellFormed Y (rowsIn K X n) (b .«next_ticket»)) (R .whole t) W)
-
-  pub good-read : (Y : Yard) → GoodBook Y b → WellFormed Y (rowsIn K X count) (b .«next_ticket»)
-  good-read Y G =
-      let f = R .flat .formed Y G in
-      subst (λ n. WellFormed Y (rowsIn K X n) (b .«next_ticket»)) (sym (R .whole (f .0))) (f .1)
-
   pub read-rows : R .read ≡ true → rowsIn K X count ≡ rowsOf b
   read-rows t = ap (rowsIn K X) (R .whole t) ∙ R .flat .rows t
+
+  module _ {Y : Yard} where
+    -- 1,025 rows are too many
+    pub read-true : Counted Y (rowsIn K X count) (b .«next_ticket») → R .read ≡ true
+    read-true C = ⊎-elim (λ t. t) (λ f. absurd (omega (arith, C .few, rows-long K X count, R .none f))) (true-or-false (R .read))
+
+    pub read-counted : Counted Y (rowsIn K X count) (b .«next_ticket») → CountedBook Y b
+    read-counted C =
+        let t = read-true C in
+        record { fits = R .flat .fits t; spare = R .flat .spare t; counts = rw (read-rows t) at C }
+
+    pub counted-read : CountedBook Y b → Counted Y (rowsIn K X count) (b .«next_ticket»)
+    counted-read G = rw (read-rows (R .flat .told Y G)) (G .counts)

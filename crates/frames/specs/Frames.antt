@@ -1,27 +1,20 @@
--- The six kinds of frame, from what the calls below them ensure: how many rows an answer has, and what the lines put are.
+-- The six kinds of frame, from what the calls below them ensure and what the lines put are.
 use Prim.Native.Nat.{ℕ, _*_, _≤_, _<_}
 use mathlib.Core.Path.{_≡_, refl}
-use mathlib.Core.Bool.{Bool, false}
+use mathlib.Core.Bool.{false}
 use mathlib.Core.Logic.{inl, inr}
 use mathlib.Core.List.{List, [], _∷_, _++_, append-nil}
 use native.Mathlib.Omega.{arith}
-use native.Mathlib.Nat.{min-le-left}
-use lib.ListN.{length, take, length-take, length-append}
-use Rattle.rules.specs.declared.Row.{Row}
-use Rattle.rules.specs.declared.Map.{Map}
-use Rattle.rules.specs.declared.Book.{Book}
+use lib.ListN.{length, take, length-append}
 use Rattle.rules.specs.declared.State.{State}
 use Rattle.rules.specs.declared.Planned.{Planned}
 use Rattle.rules.specs.declared.Booking.{Booking}
 use Rattle.rules.specs.declared.Cancelling.{Cancelling}
 use Rattle.rules.specs.declared.Paged.{Paged}
-use Rattle.rules.specs.Limits.{placeLimit, linkLimit, planLimit, pageLimit}
-use Rattle.rules.specs.Rows.{Key, bit}
-use Rattle.rules.specs.Book.{rowsOf}
-use Rattle.rules.specs.Page.{after}
+use Rattle.rules.specs.Limits.{placeLimit, linkLimit, planLimit}
+use Rattle.rules.specs.Rows.{bit}
 use Rattle.rules.specs.Bytes.{byteAt, num2, num3, bytes2, bytes3, placeIn, linkIn, rowSize, listSize, answerRoom}
-use Rattle.rules.specs.GateLaws.{unless, checked}
-use Rattle.rules.specs.Answer.{PlanIs, BookIs, CancelIs, PageIs, Planning, PagingIs, plannedNumber, plannedArrival, plannedCount, pagedNumber, pagedCount, pagedMore}
+use Rattle.rules.specs.Answer.{PlanIs, BookIs, CancelIs, PageIs, plannedNumber, plannedArrival, plannedCount, plannedRows, pagedNumber, pagedCount, pagedRows, pagedMore}
 use Rattle.rules.specs.Answer.{bookedNumber, bookedTicket, bookedArrival, bookedCount, cancelledNumber, cancelledCount}
 use Rattle.rules.specs.Frames.{hexOf, lineOf, rowLines, after00, answerList, bookLines, cancelLines, closedWith, withPlace, withLink, Said}
 use Rattle.rules.specs.Frames.{PlaceFrame, LinkFrame, PlanFrame, BookFrame, CancelFrame, PageFrame}
@@ -31,29 +24,6 @@ use Rattle.rules.specs.Program.{Spoken}
 use Rattle.frames.specs.Put.{line-long, rows-long}
 use Rattle.frames.specs.Heads.{HeadIs}
 use Rattle.frames.specs.Told.{Answers, spoken, spoken-so}
-
--- ---- how many rows
-
-pub plan-few : {m : Map} {b : Book} {start dest s : ℕ} {was out : List ℕ} {r : Planned} → PlanIs m b start dest s was out r → length was ≡ listSize → plannedCount r ≤ planLimit
-plan-few {m} {b} {start} {dest} {s} {was} {out} {r} h e =
-    checked (λ n _. none) (λ M G. unless none (λ _. unless none (λ _. unless none (λ _ c. unless none (λ f x. omega (arith, x .counts)) (c .2))))) h
-  where
-    none : {n : ℕ} → Planning n 0 0 was out r → plannedCount r ≤ planLimit
-    none x = omega (arith, x .counts)
-
-pub page-few : {m : Map} {b : Book} {size : ℕ} {k : Key} {was out : List ℕ} {r : Paged} → PageIs m b size k was out r → pagedCount r ≤ pageLimit
-page-few {m} {b} {size} {k} {was} {out} {r} h =
-    checked (λ n _. none) (λ M G. unless none (λ z. unless none (λ _. unless none (λ f x. done (after k (rowsOf b)) z x)))) h
-  where
-    none : {n : ℕ} {more : Bool} {c : Key} {list : List ℕ} → PagingIs n 0 more c list out r → pagedCount r ≤ pageLimit
-    none x = omega (arith, x .counts)
-
-    done : {n : ℕ} {more : Bool} {c : Key} {list : List ℕ} (rows : List Row) → (1 ≤ size) × (size ≤ pageLimit) → PagingIs n (length (take size rows)) more c list out r → pagedCount r ≤ pageLimit
-    done {n} {more} {c} {list} rows z x =
-        let a = length-take size rows in
-        let d = min-le-left size (length rows) in
-        let e = x .counts in
-        omega arith
 
 -- ---- frames that are refused, and the two that make the map
 
@@ -97,7 +67,7 @@ answer-short h list rows a b c d =
 
 module _ (s : State) (bytes : List ℕ) (h : Head) {was out : List ℕ} {len : ℕ} where
   pub plan-frame : (p : Planned) (list : List ℕ) (rows : ℕ) {start dest second : ℕ} → start ≡ byteAt bytes 1 → dest ≡ byteAt bytes 2 → second ≡ num3 bytes 3
-      → PlanIs (s .map) (s .book) start dest second answerList list p → rows ≤ planLimit → length list ≡ listSize → rows ≡ plannedCount p
+      → PlanIs (s .map) (s .book) start dest second answerList list p → rows ≤ planLimit → length list ≡ listSize → rows ≡ plannedRows p
       → HeadIs (after00 (plannedNumber p) (bytes3 (plannedArrival p) ++ bytes2 (plannedCount p))) h
       → Answers (lineOf (take (h .count) (h .bytes)) ++ rowLines rows list) was out len
       → Spoken (PlanFrame s bytes) was out (record { state = closedWith s (s .book); len = len })
@@ -125,7 +95,7 @@ module _ (s : State) (bytes : List ℕ) (h : Head) {was out : List ℕ} {len : �
   pub page-frame : (p : Paged) (list : List ℕ) (rows : ℕ) {size place entry ticket : ℕ}
       → size ≡ byteAt bytes 1 → place ≡ byteAt bytes 2 → entry ≡ num3 bytes 3 → ticket ≡ num3 bytes 6
       → PageIs (s .map) (s .book) size (record { place = place; entry = entry; ticket = ticket }) answerList list p
-      → rows ≤ planLimit → length list ≡ listSize → rows ≡ pagedCount p
+      → rows ≤ planLimit → length list ≡ listSize → rows ≡ pagedRows p
       → HeadIs (after00 (pagedNumber p) (pagedCount p ∷ (bit (pagedMore p) ∷ []))) h
       → Answers (lineOf (take (h .count) (h .bytes)) ++ rowLines rows list) was out len
       → Spoken (PageFrame s bytes) was out (record { state = closedWith s (s .book); len = len })

@@ -9,13 +9,11 @@ use lib.ListN.{length, take}
 use lib.Dec.{eqb}
 use lib.Seq.{getD-take, length-take-le}
 use Rattle.rules.specs.declared.State.{State}
-use Rattle.rules.specs.Bytes.{byteAt, placeSize, linkSize, answerRoom}
-use Rattle.rules.specs.Gate.{Unless}
-use Rattle.rules.specs.Frames.{lineOf, lengthBy, frameLength, Frame, Said, PlaceFrame, LinkFrame, PlanFrame, BookFrame, CancelFrame, PageFrame, FrameSays, LineSays}
+use Rattle.rules.specs.Bytes.{byteAt, placeSize, linkSize}
+use Rattle.rules.specs.Frames.{lineOf, lengthBy, frameLength, Frame, Said, PlaceFrame, LinkFrame, PlanFrame, BookFrame, CancelFrame, PageFrame, FrameSays}
 use Rattle.unique.specs.Hex.{AreBytes, hex-injective}
 use Rattle.rules.specs.declared.Line.{Line}
-use Rattle.rules.specs.declared.Told.{Told}
-use Rattle.rules.specs.Program.{LineIs, Silent, Spoken, Tells}
+use Rattle.rules.specs.Program.{LineIs, Tells}
 use Rattle.frames.specs.Lines.{Decoded}
 
 abbrev pub Reads : Line → List ℕ → ℕ → Type 0
@@ -49,7 +47,7 @@ module _ {line bytes : List ℕ} {n : ℕ} (D : Decoded line bytes n) (some : 1 
       below (suc n) (x ∷ b) (suc i) B = below n b i (λ j. B (suc j))
 
   pub same-bytes : (b : List ℕ) → Frame line b → b ≡ take n bytes
-  same-bytes b F = hex-injective b (take n bytes) (F .are-bytes) taken-bytes (sym (F .digits) ∙ D .some some)
+  same-bytes b F = hex-injective b (take n bytes) (sym (F .digits) ∙ D .some some)
 
   taken-long : length (take n bytes) ≡ n
   taken-long = length-take-le n bytes (omega (arith, D .fits, D .long))

@@ -22,7 +22,7 @@ ghost use mathlib.Core.List.{List, [], _∷_, _++_};
 ghost use lib.ListN.{length, take, drop};
 ghost use Rattle.rules.specs.Rows.{bit};
 ghost use Rattle.rules.specs.Bytes.{bytes2, bytes3, rowSize, rowLine, answerRoom};
-ghost use Rattle.rules.specs.Answer.{number, plannedNumber, plannedArrival, plannedCount, pagedNumber, pagedCount, pagedMore};
+ghost use Rattle.rules.specs.Answer.{number, plannedNumber, plannedArrival, plannedCount, pagedNumber, pagedCount, pagedRows, pagedMore};
 ghost use Rattle.rules.specs.Answer.{bookedNumber, bookedTicket, bookedArrival, bookedCount, cancelledNumber, cancelledCount};
 ghost use Rattle.rules.specs.Frames.{digit, hexOf, lineOf, rowLines, after00, closedWith, Said, PlaceFrame, LinkFrame, PlanFrame, BookFrame, CancelFrame, PageFrame, begins};
 ghost use Rattle.rules.specs.Program.{AnswerIs, EndedIs, FedIs, LineIs, Spoken, emptyLine, pushed};
@@ -384,7 +384,7 @@ fn bit_of(b: bool) -> u8
 }
 
 fn page_head(p: Paged) -> Head
-    requires { ⌜ pagedCount p < 256 ⌝ }
+    requires { ⌜ pagedRows p < 256 ⌝ }
     ensures { λ h. ⌜ HeadIs (after00 (pagedNumber p) (pagedCount p ∷ (bit (pagedMore p) ∷ []))) h ⌝ }
 {
     match p {
@@ -527,7 +527,7 @@ fn plan_frame(s: State, b: &[u8; 9], out: &mut [u8]) -> usize
     let mut list = [0u8; Row::LIST];
     let p = planning::plan(m, book, start, destination, second, &mut list);
     let h = plan_head(p);
-    let rows = p.count();
+    let rows = p.rows();
     put_answer(h, &list, rows, out)
 }
 
@@ -592,7 +592,7 @@ fn page_frame(s: State, b: &[u8; 9], out: &mut [u8]) -> usize
     let mut list = [0u8; Row::LIST];
     let p = paging::page(m, book, size, cursor, &mut list);
     let h = page_head(p);
-    let rows = p.count();
+    let rows = p.rows();
     put_answer(h, &list, rows, out)
 }
 

@@ -1,5 +1,5 @@
--- Books in array form: a good book is the array form of its rows, and the array form of well-formed rows is a good book. Both hold because
--- the slots past the count are empty rows.
+-- Books in array form: a book whose counts are good is the array form of its rows, and the array form of well-formed rows is a good book.
+-- Both hold because the slots past the count are empty rows.
 use mathlib.Core.Path.{_≡_, refl, sym, ap, subst, _∙_}
 use mathlib.Core.List.{List, _++_}
 use Prim.Native.Nat.{ℕ, _+_, _-_, _<_, _≤_}
@@ -11,7 +11,8 @@ use Rattle.rules.specs.declared.Book.{Book}
 use Rattle.rules.specs.Limits.{rowLimit}
 use Rattle.rules.specs.Map.{Yard}
 use Rattle.rules.specs.Rows.{noRow}
-use Rattle.rules.specs.Book.{WellFormed, GoodBook, rowsOf, bookOf}
+use Rattle.rules.specs.Book.{WellFormed, CountedBook, GoodBook, rowsOf, bookOf}
+use Rattle.rules.specs.GateLaws.{formed-as}
 
 pub book-eq : (a b : Book) → a .rows ≡ b .rows → a .count ≡ b .count → a .«next_ticket» ≡ b .«next_ticket» → a ≡ b
 book-eq a b p q r = λ i. record { rows = p i; count = q i; «next_ticket» = r i }
@@ -39,7 +40,7 @@ rows-of-book rows t = take-append-seam rows (replicate (rowLimit - length rows) 
 pub count-rows : (b : Book) → length (b .rows) ≡ 1024 → b .count ≤ 1024 → length (rowsOf b) ≡ b .count
 count-rows b e h = length-take-le (b .count) (b .rows) (omega arith)
 
-pub book-of-rows : {Y : Yard} (b : Book) → GoodBook Y b → length (b .rows) ≡ 1024 → b ≡ bookOf (rowsOf b) (b .«next_ticket»)
+pub book-of-rows : {Y : Yard} (b : Book) → CountedBook Y b → length (b .rows) ≡ 1024 → b ≡ bookOf (rowsOf b) (b .«next_ticket»)
 book-of-rows b G e =
     let c = count-rows b e (G .fits) in
     book-eq b (bookOf (rowsOf b) (b .«next_ticket»))
@@ -48,8 +49,10 @@ book-of-rows b G e =
     refl
 
 pub good-book : {Y : Yard} {rows : List Row} {t : ℕ} → WellFormed Y rows t → GoodBook Y (bookOf rows t)
-good-book {Y} {rows} {t} W = record {
-  fits = W .few;
-  spare = λ i h k. past-end noRow rowLimit rows i h k;
-  formed = subst (λ (l : List Row). WellFormed Y l t) (sym (rows-of-book rows t)) W;
-}
+good-book {Y} {rows} {t} W =
+    formed-as (λ c. record { fits = W .counted .few; spare = λ i h k. past-end noRow rowLimit rows i h k; counts = c })
+    (subst (λ (l : List Row). WellFormed Y l t) (sym (rows-of-book rows t)) W)
+
+-- the rows of a good book
+pub book-formed : {Y : Yard} {b : Book} → GoodBook Y b → WellFormed Y (rowsOf b) (b .«next_ticket»)
+book-formed G = formed-as (λ c. c .counts) G

@@ -27,11 +27,8 @@ use Rattle.keeping.specs.Unbarred.{unbarred-kept, unbarred-booked}
 pub empty-formed : (Y : Yard) → WellFormed Y [] 1
 unfolding load
 empty-formed Y = record {
-  few = omega arith;
+  counted = record { few = omega arith; ticket-from = omega arith; ticket-to = omega arith; ranges = λ i h. absurd (omega arith) };
   rising = rising-none;
-  ticket-from = omega arith;
-  ticket-to = omega arith;
-  ranges = λ i h. absurd (omega arith);
   whole = λ r m. absurd (List·Memᴰ·not-nil m);
   room = λ p t h. omega arith;
   exchange = λ r m. absurd (List·Memᴰ·not-nil m);
@@ -39,7 +36,7 @@ empty-formed Y = record {
 
 -- the ranges of a row that stands in a book
 pub row-ranges : {Y : Yard} {rows : List Row} {t : ℕ} → WellFormed Y rows t → (r : Row) → List·Memᴰ r rows → Ranges Y t r
-row-ranges {Y} {rows} {t} W r m = let i = mem-index noRow m in subst (Ranges Y t) (i .2) (W .ranges (i .0) (i .1))
+row-ranges {Y} {rows} {t} W r m = let i = mem-index noRow m in subst (Ranges Y t) (i .2) (W .counted .ranges (i .0) (i .1))
 
 -- so it fits its bytes
 pub row-fits : {Y : Yard} {rows : List Row} {t : ℕ} → Y .places ≤ placeLimit → WellFormed Y rows t → (r : Row) → List·Memᴰ r rows → RowFits r
@@ -48,7 +45,7 @@ row-fits few W r m =
     record {
       place = omega (arith, R .place);
       entry = omega (arith, R .entry);
-      ticket = omega (arith, R .ticket-to, W .ticket-to);
+      ticket = omega (arith, R .ticket-to, W .counted .ticket-to);
       exit = omega (arith, R .exit);
       next = omega (arith, R .next);
     }
@@ -88,7 +85,7 @@ module _ {Y : Yard} (rules : YardRules Y) {rows : List Row} {t start dest s : �
         next = ⊎-elim (λ (e : r .next ≡ r .place). rw e (o .on-map)) (λ (ne : r .next ≡ r .place → ⊥). rules .to-on (r .place) (r .next) (o .linked ne)) (eq-or-ne (r .next) (r .place));
         entry = omega (arith, o .lasts, o .in-day);
         exit = o .in-day;
-        ticket-from = omega (arith, W .ticket-from);
+        ticket-from = omega (arith, W .counted .ticket-from);
         ticket-to = omega arith;
       }
 
@@ -117,12 +114,14 @@ module _ {Y : Yard} (rules : YardRules Y) {rows : List Row} {t start dest s : �
 
   formed : t < ticketLimit → length rows + length plan ≤ rowLimit → WellFormed Y book (t + 1)
   formed before fits = record {
-    few = omega (arith, all-length new rows, run-length t plan);
+    counted = record {
+      few = omega (arith, all-length new rows, run-length t plan);
+      ticket-from = omega arith;
+      ticket-to = omega arith;
+      ranges = λ i h. ⊎-elim (λ (m : List·Memᴰ (rowAt book i) rows). old-ranges (rowAt book i) m) (λ (m : List·Memᴰ (rowAt book i) new). new-ranges (rowAt book i) m)
+          (book-rows t plan rows (rowAt book i) (index-mem noRow book i h));
+    };
     rising = all-rising new rows (W .rising) new-keys;
-    ticket-from = omega arith;
-    ticket-to = omega arith;
-    ranges = λ i h. ⊎-elim (λ (m : List·Memᴰ (rowAt book i) rows). old-ranges (rowAt book i) m) (λ (m : List·Memᴰ (rowAt book i) new). new-ranges (rowAt book i) m)
-        (book-rows t plan rows (rowAt book i) (index-mem noRow book i h));
     whole = λ r m. ⊎-elim (λ (d : List·Memᴰ r rows). old-whole r d) (λ (d : List·Memᴰ r new). subst (Whole Y book) (sym (run-ticket t plan r d)) new-whole) (book-rows t plan rows r m);
     room = λ p x h. omega (arith, load-all p x new rows, run-load t plan p x, P .room p x h);
     exchange = unbarred-booked t rules (P .run) rows (P .exchange) (W .exchange);
@@ -158,11 +157,13 @@ module _ {Y : Yard} {rows : List Row} {t : ℕ} (k : ℕ) (W : WellFormed Y rows
 
   pub cancel-keeps : WellFormed Y (keep (otherTicket k) rows) t
   cancel-keeps = record {
-    few = omega (arith, keep-le (otherTicket k) rows, W .few);
+    counted = record {
+      few = omega (arith, keep-le (otherTicket k) rows, W .counted .few);
+      ticket-from = W .counted .ticket-from;
+      ticket-to = W .counted .ticket-to;
+      ranges = λ i h. row-ranges W (rowAt rest i) (cancel-rows k rows (rowAt rest i) (index-mem noRow rest i h) .0);
+    };
     rising = keep-rising (otherTicket k) rows (W .rising);
-    ticket-from = W .ticket-from;
-    ticket-to = W .ticket-to;
-    ranges = λ i h. row-ranges W (rowAt rest i) (cancel-rows k rows (rowAt rest i) (index-mem noRow rest i h) .0);
     whole = rest-whole;
     room = λ p x h. omega (arith, load-keep p x (otherTicket k) rows, W .room p x h);
     exchange = unbarred-kept (otherTicket k) rows (W .exchange);

@@ -1,6 +1,6 @@
 -- A plan's rows under a ticket: as many as its stays, of its ticket alone, loading places as the stays do; each row passes the chain test;
 -- entries and exits rise along them, so that their keys and their exits differ.
-use mathlib.Core.Path.{_≡_, refl, sym, ap, subst, _∙_}
+use mathlib.Core.Path.{_≡_, refl, sym, ap, _∙_}
 use mathlib.Core.Logic.{⊎-elim}
 use mathlib.Core.List.{List, [], _∷_, List·Memᴰ, List·Memᴰ·not-nil, List·Memᴰ·cases-cons}
 use Prim.Native.Nat.{ℕ, zero, suc, _+_, _<_, _≤_}
@@ -14,7 +14,7 @@ use Rattle.rules.specs.Rows.{Key, rowKey, noRow, rowAt, covers, bit, load}
 use Rattle.rules.specs.Plan.{Stay, stayAt, Plan, held, stayRow, runRows}
 use Rattle.rules.specs.Book.{Whole}
 use Rattle.lanes.specs.Yards.{YardRules}
-use Rattle.chains.specs.Test.{AllWhole, RowOk}
+use Rattle.chains.specs.Test.{RowOk}
 use Rattle.chains.specs.Laws.{whole-tested, run-rises}
 
 module _ (k : ℕ) where
@@ -36,14 +36,12 @@ module _ (k : ℕ) where
   run-load (x ∷ (y ∷ ys)) p t = ap (λ (n : ℕ). bit (covers (x .place) (x .entry) (x .exit) p t) + n) (run-load (y ∷ ys) p t)
 
   -- a plan's rows alone are its whole run
-  pub run-whole : {Y : Yard} {plan : List Stay} → Plan Y plan → AllWhole Y (runRows k plan)
-  run-whole {Y} {plan} P r m =
-      let e = run-ticket plan r m in
-      subst (Whole Y (runRows k plan)) (sym e) (record { plan = plan; is-plan = P; booked = λ s d. d; only = λ s d q. d })
+  run-whole : {Y : Yard} {plan : List Stay} → Plan Y plan → Whole Y (runRows k plan) k
+  run-whole {plan = plan} P = record { plan = plan; is-plan = P; booked = λ s d. d; only = λ s d q. d }
 
   module _ {Y : Yard} (rules : YardRules Y) where
     pub run-tested : (plan : List Stay) → Plan Y plan → (r : Row) → List·Memᴰ r (runRows k plan) → RowOk Y (runRows k plan) r
-    run-tested plan P r m = whole-tested rules (run-whole P) .each r m
+    run-tested plan P r m = whole-tested rules (run-whole P) .each r m (run-ticket plan r m)
 
     rises : (plan : List Stay) → Plan Y plan → (i : ℕ) → i < length plan → (stayAt plan i) .entry < (stayAt plan i) .exit
     rises plan P i h = omega (arith, P .lasts i h, rules .long ((stayAt plan i) .place))

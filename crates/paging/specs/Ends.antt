@@ -3,6 +3,7 @@
 use Prim.Native.Nat.{ℕ, _≤_, _<_}
 use mathlib.Core.Path.{_≡_, refl, sym}
 use mathlib.Core.Logic.{inl, inr}
+use mathlib.Core.Bool.{false}
 use mathlib.Core.List.{List}
 use native.Mathlib.Omega.{arith}
 use Rattle.rules.specs.declared.Row.{Row}
@@ -11,13 +12,13 @@ use Rattle.rules.specs.declared.Paged.the-variants.{Done, Refused}
 use Rattle.rules.specs.declared.Refusal.{Refusal}
 use Rattle.rules.specs.declared.Refusal.the-variants.{ShortList, BadSize, BadCursor}
 use Rattle.rules.specs.Map.{Yard}
-use Rattle.rules.specs.Rows.{Key}
+use Rattle.rules.specs.Rows.{Key, firstKey}
 use Rattle.rules.specs.Bytes.{records}
-use Rattle.rules.specs.Answer.{number, PageRefused, PageSound, PageDone, CursorFits}
+use Rattle.rules.specs.Answer.{number, faultRow, PagingIs, PageSound, PageDone, CursorFits}
 
 -- refused at the gate
-pub page-refused : {was out : List ℕ} {x : Refusal} → was ≡ out → (n : ℕ) → number x ≡ n → PageRefused n was out (Refused x)
-page-refused e n h = record { code = h; counts = refl; says = refl; hands = refl; holds = sym e }
+pub page-refused : {was out : List ℕ} {x : Refusal} → was ≡ out → (n i : ℕ) → number x ≡ n → faultRow x ≡ i → PagingIs n i false firstKey was out (Refused x)
+page-refused e n i h k = record { code = h; counts = k; says = refl; hands = refl; holds = sym e }
 
 -- ---- where map and book are sound
 

@@ -12,12 +12,12 @@ use Rattle.rules.specs.declared.Planned.{Planned}
 use Rattle.rules.specs.declared.Paged.{Paged}
 use Rattle.rules.specs.Map.{Yard, yardOf, MapRules}
 use Rattle.rules.specs.Rows.{Key, bit}
-use Rattle.rules.specs.Book.{WellFormed}
+use Rattle.rules.specs.Book.{Counted}
 use Rattle.rules.specs.Answer.{PlanSays, PageSays, plannedNumber, plannedArrival, plannedCount, pagedNumber, pagedCount, pagedMore}
 use Rattle.rules.specs.Bytes.{num2, placeSize}
 use Rattle.rules.specs.Gate.{Papers}
 use Rattle.rules.specs.GateLaws.{SamePapers}
-use Rattle.rules.specs.Portal.{slicePlaces, sliceLinks, sliceYard, MapSlice, sliceRows, sliceTicket, BookSlice, slicePapers, oneNumber, PortalPlan, PortalPage}
+use Rattle.rules.specs.Portal.{slicePlaces, sliceLinks, sliceYard, MapSlice, sliceRows, sliceTicket, CountedSlice, slicePapers, oneNumber, PortalPlan, PortalPage}
 use Rattle.flat.specs.Flat.{placesIn, linksIn, yardIn, rowsIn, papersIn, Packed}
 use Rattle.flat.specs.Laws.{places-long, rows-long}
 use Rattle.wire.specs.Reading.{PlacesOf, LinksOf, RowsOf}
@@ -108,19 +108,19 @@ book-read S R a b = record {
 }
 
 module _ {s K X : List ℕ} {count ticket : ℕ} (R : BookRead s K X count ticket) where
-  module _ {Y : Yard} (W : WellFormed Y (rowsIn K X count) ticket) where
+  module _ {Y : Yard} (C : Counted Y (rowsIn K X count) ticket) where
     -- 1,025 rows are too many
     book-true : R .read ≡ true
-    book-true = ⊎-elim (λ t. t) (λ f. absurd (omega (arith, W .few, rows-long K X count, R .none f))) (true-or-false (R .read))
+    book-true = ⊎-elim (λ t. t) (λ f. absurd (omega (arith, C .few, rows-long K X count, R .none f))) (true-or-false (R .read))
 
-    pub book-to : BookSlice Y s
-    book-to = let S = R .shape .0 book-true in record { counts = S .counts; fits = S .fits; formed = rw (R .rows book-true, R .issues book-true) at W }
+    pub counted-to : CountedSlice Y s
+    counted-to = let S = R .shape .0 book-true in record { head = S .counts; fits = S .fits; counts = rw (R .rows book-true, R .issues book-true) at C }
 
     pub book-rows : rowsIn K X count ≡ sliceRows s
     book-rows = R .rows book-true
 
-  pub book-of : {Y : Yard} → BookSlice Y s → WellFormed Y (rowsIn K X count) ticket
-  book-of B = let t = R .shape .1 (book-shape B) in rw (R .rows t, R .issues t) (B .formed)
+  pub counted-of : {Y : Yard} → CountedSlice Y s → Counted Y (rowsIn K X count) ticket
+  counted-of S = let t = R .shape .1 (book-shape S) in rw (R .rows t, R .issues t) (S .counts)
 
 -- ---- what is said of the arrays is said of the slices
 
@@ -132,10 +132,10 @@ module _ {map book C D F T K X : List ℕ} {n k count ticket : ℕ} (M : MapRead
   read = record {
     map-to = map-to M;
     map-of = map-of M;
-    book-to = λ R W. subst (λ (z : Yard). BookSlice z book) (map-yard M R) (book-to B W);
-    book-of = λ R S. book-of B (subst (λ (z : Yard). BookSlice z book) (sym (map-yard M R)) S);
+    counted-to = λ R C. subst (λ (z : Yard). CountedSlice z book) (map-yard M R) (counted-to B C);
+    counted-of = λ R S. counted-of B (subst (λ (z : Yard). CountedSlice z book) (sym (map-yard M R)) S);
     yard = map-yard M;
-    rows = λ R W. book-rows B W;
+    rows = λ R C. book-rows B C;
   }
 
   pub portal-plan : {start dest s : ℕ} {was out : List ℕ} {p : Planned} {r : ℕ} → PlanSays arrays start dest s was out p

@@ -8,7 +8,7 @@ ghost use mathlib.Core.Path.{_≡_};
 ghost use Prim.Native.Nat.{ℕ, _≤_};
 ghost use lib.ListN.{length};
 ghost use Rattle.laws.specs.Lists.{at};
-ghost use Rattle.rules.specs.Limits.{pageLimit};
+ghost use Rattle.rules.specs.Limits.{rowLimit};
 ghost use Rattle.rules.specs.Rows.{bit};
 ghost use Rattle.rules.specs.Answer.{plannedNumber, plannedArrival, plannedCount, pagedNumber, pagedCount, pagedMore};
 ghost use Rattle.rules.specs.Portal.{oneNumber, PortalPlan, PortalPage};
@@ -85,13 +85,13 @@ fn packed_plan(p: Planned) -> u64
 {
     match p {
         Planned::Done(t) => (t.arrival as u64) * 2048 + (t.count as u64),
-        Planned::Refused(r) => (r.number() as u64) * 4294967296,
+        Planned::Refused(r) => (r.number() as u64) * 4294967296 + (r.row() as u64),
     }
 }
 
 // A page's answer as one number.
 fn packed_page(p: Paged) -> u64
-    requires { ⌜ pagedCount p ≤ pageLimit ⌝ }
+    requires { ⌜ pagedCount p ≤ rowLimit ⌝ }
     ensures { λ r. ⌜ r ≡ oneNumber (pagedNumber p) (bit (pagedMore p)) (pagedCount p) ⌝ }
 {
     match p {
@@ -101,7 +101,7 @@ fn packed_page(p: Paged) -> u64
             }
             s.count as u64
         }
-        Paged::Refused(r) => (r.number() as u64) * 4294967296,
+        Paged::Refused(r) => (r.number() as u64) * 4294967296 + (r.row() as u64),
     }
 }
 

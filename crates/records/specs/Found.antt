@@ -2,12 +2,12 @@
 -- most 1,280: a plan has no more stays than that and a page no more rows, so that the list is too short for the call exactly where the caller's is.
 -- The rows are read back from the bytes; over the caller's records they are what the call on records leaves.
 use Prim.Native.Nat.{ℕ, _*_, _/_, _≤_, _<_}
-use mathlib.Core.Path.{_≡_, sym, ap, subst, _∙_}
+use mathlib.Core.Path.{_≡_, sym, ap, ap₂, subst, _∙_}
 use mathlib.Core.Logic.{inl, inr, ⊎-elim}
+use mathlib.Core.Bool.{false}
 use mathlib.Core.List.{List, _++_, List·Memᴰ, Memᴰ·append-left}
-use native.Mathlib.Nat.{min-le-left}
 use native.Mathlib.Omega.{arith}
-use lib.ListN.{length, take, drop, length-append, length-drop, length-take, take-append-drop}
+use lib.ListN.{length, take, drop, length-append, length-drop, take-append-drop}
 use lib.Seq.{length-take-le}
 use Rattle.laws.specs.Order.{lt-or-ge}
 use Rattle.laws.specs.Lists.{index-mem}
@@ -18,7 +18,7 @@ use Rattle.rules.specs.declared.Planned.{Planned}
 use Rattle.rules.specs.declared.Paged.{Paged}
 use Rattle.rules.specs.Limits.{planLimit, pageLimit}
 use Rattle.rules.specs.Map.{GoodMap, mapYard}
-use Rattle.rules.specs.Rows.{Key, rowKey, noRow, rowAt, lessb}
+use Rattle.rules.specs.Rows.{Key, rowKey, firstKey, noRow, rowAt, lessb}
 use Rattle.rules.specs.Page.{after, pageRows, pageMore, lastKey}
 use Rattle.rules.specs.Plan.{Stay, stayAt, Permitted, runRows, arrival}
 use Rattle.rules.specs.Book.{GoodBook, rowsOf}
@@ -26,14 +26,16 @@ use Rattle.rules.specs.Chosen.{Chosen}
 use Rattle.rules.specs.Bytes.{rowSize, records, listSize}
 use Rattle.rules.specs.ByteLaws.{RowFits}
 use Rattle.rules.specs.Gate.{Unless, papersOf}
-use Rattle.rules.specs.GateLaws.{unless, instead, checked, checked-as, same-papers}
-use Rattle.rules.specs.Answer.{Planning, PlanIs, PlanRecords, PlanRefused, PlanDone, plannedCount, PagingIs, PageIs, PageRecords, PageRefused, PageDone, pagedCount, over}
+use Rattle.rules.specs.GateLaws.{instead, checked-as, same-papers}
+use Rattle.rules.specs.Answer.{rowsDone, Planning, PlanIs, PlanRecords, PlanRefused, PlanDone, plannedRows, PagingIs, PageIs, PageRecords, PageRefused, PageDone, pagedRows, over}
 use Rattle.lanes.specs.Yards.{YardRules, yard-rules}
 use Rattle.lanes.specs.Windows.{ends}
 use Rattle.lanes.specs.Chosen.{chosen-best}
 use Rattle.keeping.specs.Runs.{run-length}
 use Rattle.keeping.specs.Changes.{mem-keep}
 use Rattle.keeping.specs.Keeping.{row-fits}
+use Rattle.keeping.specs.Books.{book-formed}
+use Rattle.desk.specs.Few.{no-stays, no-rows, plan-within, page-within, page-short}
 use Rattle.records.specs.declared.FoundPlan.{FoundPlan}
 use Rattle.records.specs.declared.FoundPage.{FoundPage}
 use Rattle.records.specs.Few.{chosen-few}
@@ -86,15 +88,6 @@ pub record PlanFound (m : Map) (b : Book) (start dest s room : ℕ) (f : FoundPl
   pub fits : f .count ≤ room
   pub says : (was : List Row) → length was ≡ room → PlanRecords m b start dest s was (put (f .count) (f .rows) was) (f .answer)
 
--- no more rows are counted than the list has records
-pub plan-within : {m : Map} {b : Book} {start dest s : ℕ} {lent out : List ℕ} {a : Planned} → PlanIs m b start dest s lent out a → plannedCount a ≤ records lent
-plan-within {m} {b} {start} {dest} {s} {lent} {out} {a} h =
-    checked (λ n _. refused) (λ M G. unless refused (λ on. unless refused (λ d. unless refused (λ some x.
-    unless refused (λ k D. omega (arith, D .counts)) (x .2))))) h
-  where
-    refused : {n : ℕ} → PlanRefused n lent out a → plannedCount a ≤ records lent
-    refused x = omega (arith, x .counts)
-
 -- the stays of a plan of the day fit
 stays-fit : (m : Map) (b : Book) {start dest s : ℕ} {plan : List Stay} → GoodMap m → Permitted (mapYard m) (rowsOf b) start dest s plan → (i : ℕ) → i < length plan → StayFits (stayAt plan i)
 stays-fit m b {plan = plan} M P i h = record {
@@ -104,10 +97,10 @@ stays-fit m b {plan = plan} M P i h = record {
 }
 
 module _ {m : Map} {b : Book} {start dest s room : ℕ} {lent out : List ℕ} (rest : List ℕ) {a : Planned} {n : ℕ} {rows : List Row} (L : Lent room (length lent))
-    (h : PlanIs m b start dest s lent out a) (e : n ≡ plannedCount a) (R : RowsRead (out ++ rest) n rows) where
+    (h : PlanIs m b start dest s lent out a) (e : n ≡ plannedRows a) (R : RowsRead (out ++ rest) n rows) where
   module _ (was : List Row) (l : length was ≡ room) where
-    refused : {k : ℕ} → PlanRefused k lent out a → PlanRefused k was (put n rows was) a
-    refused x = record { code = x .code; arrives = x .arrives; counts = x .counts; holds = put-none rows was (e ∙ x .counts) }
+    refused : (k : ℕ) {i : ℕ} → 0 < k → Planning k 0 i lent out a → Planning k 0 i was (put n rows was) a
+    refused k p x = record { code = x .code; arrives = x .arrives; counts = x .counts; holds = put-none rows was (e ∙ no-stays k p x) }
 
     module _ (M : GoodMap m) (G : GoodBook (mapYard m) b) (on : dest < mapYard m .places) {plan : List Stay} (C : Chosen (mapYard m) (rowsOf b) start dest s plan) where
       rules : YardRules (mapYard m)
@@ -118,22 +111,23 @@ module _ {m : Map} {b : Book} {start dest s room : ℕ} {lent out : List ℕ} (r
 
       done : length plan ≤ records lent → PlanDone plan lent out a → Done
       done k D =
-          let P = (chosen-best (mapYard m) (rowsOf b) start dest s (rules .from-on) on (G .formed .room) C) .0 in
-          let c : n ≡ length (runRows 0 plan) = e ∙ D .counts ∙ sym (run-length 0 plan) in
+          let P = (chosen-best (mapYard m) (rowsOf b) start dest s (rules .from-on) on (G .room) C) .0 in
+          let c : n ≡ length (runRows 0 plan) = e ∙ ap₂ rowsDone (D .code) (D .counts) ∙ sym (run-length 0 plan) in
           let r : take n rows ≡ runRows 0 plan =
-          read-all (runRows 0 plan) lent rest (run-fits 0 (omega arith) plan (stays-fit m b M P)) c (omega (arith, lent-few L, D .counts))
+          read-all (runRows 0 plan) lent rest (run-fits 0 (omega arith) plan (stays-fit m b M P)) c (omega (arith, lent-few L, run-length 0 plan))
           (subst (λ (o : List ℕ). RowsRead (o ++ rest) n rows) (D .holds) R) in
           record { code = D .code; arrives = D .arrives; counts = D .counts; holds = put-all rows (runRows 0 plan) was c r }
 
       listed : Unless (length plan ≤ records lent) (PlanRefused 6 lent out a) (PlanDone plan lent out a) → Unless (length plan ≤ length was) (PlanRefused 6 was (put n rows was) a) Done
       listed (inl x) =
           let f = chosen-few (mapYard m) (rowsOf b) rules start dest s C in
-          inl (λ k. x .0 (lent-enough (length plan) L (omega (arith, f, M .rules .few, G .formed .few)) (omega arith)), refused (x .1))
+          inl (λ k. x .0 (lent-enough (length plan) L (omega (arith, f, M .rules .few, book-formed G .counted .few)) (omega arith)), refused 6 (omega arith) (x .1))
       listed (inr y) = inr (omega (arith, y .0, lent-room L), done (y .0) (y .1))
 
     plan-says : PlanRecords m b start dest s was (put n rows was) a
     plan-says =
-        checked-as (same-papers (papersOf m b)) (λ k _. refused) (λ M G. instead refused (λ on. instead refused (λ d. instead refused (λ some x.
+        checked-as (same-papers (papersOf m b)) (λ n i g. refused n (g .some)) (λ M G.
+        instead (refused 3 (omega arith)) (λ on. instead (refused 4 (omega arith)) (λ d. instead (refused 5 (omega arith)) (λ some x.
         (x .0, x .1, listed M G (on .1) (x .1) (x .2)))))) h
 
   pub plan-found : PlanFound m b start dest s room (record { rows = rows; count = n; answer = a })
@@ -145,7 +139,7 @@ module _ {m : Map} {b : Book} {start dest s room : ℕ} {lent out : List ℕ} (r
 
 -- the plan written to the front of a list of 1,280 records
 module _ {m : Map} {b : Book} {start dest s room n : ℕ} (L : Lent room n) (z : List ℕ) (l : length z ≡ listSize) {p : List ℕ} {a : Planned} {k : ℕ}
-    (h : PlanIs m b start dest s (take n z) p a) (e : k ≡ plannedCount a) where
+    (h : PlanIs m b start dest s (take n z) p a) (e : k ≡ plannedRows a) where
   pub plan-readable : length p ≡ length (take n z) → (k ≤ planLimit) × (rowSize * k ≤ length (p ++ drop n z))
   plan-readable q =
       let w = plan-within h in
@@ -163,31 +157,19 @@ pub record PageFound (m : Map) (b : Book) (size : ℕ) (k : Key) (room : ℕ) (f
   pub fits : f .count ≤ room
   pub says : (was : List Row) → length was ≡ room → PageRecords m b size k was (put (f .count) (f .rows) was) (f .answer)
 
-page-few : (size : ℕ) (k : Key) (rows : List Row) → length (pageRows size k rows) ≤ size
-page-few size k rows = omega (arith, length-take size (after k rows), min-le-left size (length (after k rows)))
-
--- no more rows are counted than the list has records
-pub page-within : {m : Map} {b : Book} {size : ℕ} {k : Key} {lent out : List ℕ} {a : Paged} → PageIs m b size k lent out a → pagedCount a ≤ records lent
-page-within {m} {b} {size} {k} {lent} {out} {a} h =
-    checked (λ n _. refused) (λ M G. unless refused (λ s. unless refused (λ c. unless refused (λ r D.
-    omega (arith, D .counts, page-few size k (rowsOf b)))))) h
-  where
-    refused : {n : ℕ} → PageRefused n lent out a → pagedCount a ≤ records lent
-    refused x = omega (arith, x .counts)
-
 -- a page's rows stand in the book, and a good book's rows fit
 page-fits : {m : Map} {b : Book} (size : ℕ) (k : Key) → GoodMap m → GoodBook (mapYard m) b → (j : ℕ) → j < length (pageRows size k (rowsOf b)) → RowFits (rowAt (pageRows size k (rowsOf b)) j)
 page-fits {m} {b} size k M G j h =
     let page : List Row = pageRows size k (rowsOf b) in
     let r : Row = rowAt page j in
     let n : List·Memᴰ r (after k (rowsOf b)) = rw (take-append-drop size (after k (rowsOf b))) at (Memᴰ·append-left (drop size (after k (rowsOf b))) (index-mem noRow page j h)) in
-    row-fits (M .rules .few) (G .formed) r ((mem-keep (λ x. lessb k (rowKey x)) r (rowsOf b) n) .0)
+    row-fits (M .rules .few) (book-formed G) r ((mem-keep (λ x. lessb k (rowKey x)) r (rowsOf b) n) .0)
 
 module _ {m : Map} {b : Book} {size room : ℕ} {k : Key} {lent out : List ℕ} (rest : List ℕ) {a : Paged} {n : ℕ} {rows : List Row} (L : Lent room (length lent))
-    (h : PageIs m b size k lent out a) (e : n ≡ pagedCount a) (R : RowsRead (out ++ rest) n rows) where
+    (h : PageIs m b size k lent out a) (e : n ≡ pagedRows a) (R : RowsRead (out ++ rest) n rows) where
   module _ (was : List Row) (l : length was ≡ room) where
-    not-shown : {i : ℕ} → PageRefused i lent out a → PageRefused i was (put n rows was) a
-    not-shown x = record { code = x .code; counts = x .counts; says = x .says; hands = x .hands; holds = put-none rows was (e ∙ x .counts) }
+    not-shown : (j : ℕ) {i : ℕ} → 0 < j → PagingIs j i false firstKey lent out a → PagingIs j i false firstKey was (put n rows was) a
+    not-shown j p x = record { code = x .code; counts = x .counts; says = x .says; hands = x .hands; holds = put-none rows was (e ∙ no-rows j p x) }
 
     abbrev page : List Row
     page = pageRows size k (rowsOf b)
@@ -198,32 +180,34 @@ module _ {m : Map} {b : Book} {size room : ℕ} {k : Key} {lent out : List ℕ} 
     module _ (M : GoodMap m) (G : GoodBook (mapYard m) b) (s : size ≤ pageLimit) where
       shows : size ≤ records lent → PageDone (rowsOf b) size k lent out a → Shows
       shows q D =
-          let c : n ≡ length page = e ∙ D .counts in
+          let c : n ≡ length page = e ∙ ap₂ rowsDone (D .code) (D .counts) in
           let r : take n rows ≡ page =
-          read-all page lent rest (page-fits size k M G) c (omega (arith, lent-few L, page-few size k (rowsOf b)))
+          read-all page lent rest (page-fits size k M G) c (omega (arith, lent-few L, page-short size k (rowsOf b)))
           (subst (λ (o : List ℕ). RowsRead (o ++ rest) n rows) (D .holds) R) in
           record { code = D .code; counts = D .counts; says = D .says; hands = D .hands; holds = put-all rows page was c r }
 
       paged : Unless (size ≤ records lent) (PageRefused 6 lent out a) (PageDone (rowsOf b) size k lent out a) → Unless (size ≤ length was) (PageRefused 6 was (put n rows was) a) Shows
-      paged (inl x) = inl (λ q. x .0 (lent-enough size L (omega arith) (omega arith)), not-shown (x .1))
+      paged (inl x) = inl (λ q. x .0 (lent-enough size L (omega arith) (omega arith)), not-shown 6 (omega arith) (x .1))
       paged (inr y) = inr (omega (arith, y .0, lent-room L), shows (y .0) (y .1))
 
     page-says : PageRecords m b size k was (put n rows was) a
-    page-says = checked-as (same-papers (papersOf m b)) (λ i _. not-shown) (λ M G. instead not-shown (λ s. instead not-shown (λ c. paged M G (s .1)))) h
+    page-says =
+        checked-as (same-papers (papersOf m b)) (λ n i g. not-shown n (g .some))
+        (λ M G. instead (not-shown 10 (omega arith)) (λ s. instead (not-shown 11 (omega arith)) (λ c. paged M G (s .1)))) h
 
   pub page-found : PageFound m b size k room (record { rows = rows; count = n; answer = a })
   page-found = record {
-    few = omega (arith, page-within h, lent-few L);
-    fits = omega (arith, page-within h, lent-room L);
+    few = omega (arith, page-within h .0, lent-few L);
+    fits = omega (arith, page-within h .0, lent-room L);
     says = page-says;
   }
 
 -- the page written to the front of a list of 1,280 records
 module _ {m : Map} {b : Book} {size room n : ℕ} {key : Key} (L : Lent room n) (z : List ℕ) (l : length z ≡ listSize) {p : List ℕ} {a : Paged} {k : ℕ}
-    (h : PageIs m b size key (take n z) p a) (e : k ≡ pagedCount a) where
+    (h : PageIs m b size key (take n z) p a) (e : k ≡ pagedRows a) where
   pub page-readable : length p ≡ length (take n z) → (k ≤ planLimit) × (rowSize * k ≤ length (p ++ drop n z))
   page-readable q =
-      let w = page-within h in
+      let w = page-within h .0 in
       let f = lent-few (lent-front L z l) in
       (omega (arith, w, f), omega (arith, w, f, lent-back L z l p q))
 

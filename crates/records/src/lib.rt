@@ -77,7 +77,7 @@ fn find_plan(m: Map, b: Book, start: u32, destination: u32, second: u32, room: u
     let mut list = [0u8; Row::LIST];
     let n = lent(room);
     let a = planning::plan(m, b, start, destination, second, &mut list[..n]);
-    let count = a.count();
+    let count = a.rows();
     let rows = read_rows(&list, count);
     FoundPlan {
         rows: rows,
@@ -109,7 +109,7 @@ fn find_page(m: Map, b: Book, size: u32, c: Cursor, room: usize) -> FoundPage
     let mut list = [0u8; Row::LIST];
     let n = lent(room);
     let a = paging::page(m, b, size, c, &mut list[..n]);
-    let count = a.count();
+    let count = a.rows();
     let rows = read_rows(&list, count);
     FoundPage {
         rows: rows,

@@ -2,7 +2,7 @@
 -- and the page's rows are computed; a list that is too short is refused with 6 and stays as it was, and in one that is long enough the records
 -- past the rows keep their values.
 use Prim.Native.Nat.{ℕ, _≤_, _<_}
-use mathlib.Core.Path.{_≡_, sym, ap, subst, _∙_}
+use mathlib.Core.Path.{_≡_, sym, ap, ap₂, subst, _∙_}
 use mathlib.Core.Logic.{⊎-elim}
 use mathlib.Core.Bool.{true}
 use mathlib.Core.List.{List, [], _∷_, _++_, append-assoc}
@@ -21,8 +21,8 @@ use Rattle.rules.specs.Plan.{Stay, arrival, runRows}
 use Rattle.rules.specs.Book.{GoodBook, bookOf}
 use Rattle.rules.specs.Gate.{Unless}
 use Rattle.rules.specs.GateLaws.{past, passed}
-use Rattle.rules.specs.Answer.{Planning, PlanRefused, PlanAnswers, PlanRecords, plannedNumber, plannedArrival, plannedCount}
-use Rattle.rules.specs.Answer.{PagingIs, PageRefused, PageRecords, pagedNumber, pagedCount, pagedMore, over}
+use Rattle.rules.specs.Answer.{Planning, PlanRefused, PlanAnswers, PlanRecords, plannedNumber, plannedArrival, plannedRows}
+use Rattle.rules.specs.Answer.{rowsDone, PagingIs, PageRefused, PageRecords, pagedNumber, pagedRows, pagedMore, over}
 use Rattle.keeping.specs.Books.{rows-of-book, good-book}
 use Rattle.cases.specs.Maps.{yard, arrays, barn-good}
 use Rattle.cases.specs.Past.{rowsNow, bookNow}
@@ -96,7 +96,7 @@ pub record PlanOn (n : ℕ) (rows : List Row) (a : Planned) : Type 0 where
   pub rows-are : 3 ≤ n → rows ≡ planned
   pub code : 3 ≤ n → plannedNumber a ≡ 0
   pub arrives : 3 ≤ n → plannedArrival a ≡ 60
-  pub counts : 3 ≤ n → plannedCount a ≡ 3
+  pub counts : 3 ≤ n → plannedRows a ≡ 3
 
 pub plan-on : {n : ℕ} {rows : List Row} {a : Planned} → n ≤ 8 → PlanRecords barnMap bothBook 0 3 10 (take n marks) (take n rows) a → drop n rows ≡ drop n marks → PlanOn n rows a
 plan-on {n} {rows} {a} k h f = record {
@@ -105,7 +105,7 @@ plan-on {n} {rows} {a} k h f = record {
   rows-are = λ g. whole-over marks (runRows 0 way) rows n g k (done g .holds) f;
   code = λ g. done g .code;
   arrives = λ g. done g .arrives ∙ way-planned .arrives;
-  counts = λ g. done g .counts;
+  counts = λ g. ap₂ rowsDone (done g .code) (done g .counts);
 }
   where
     long : length (take n marks) ≡ n
@@ -136,7 +136,7 @@ pub record PageOn (n : ℕ) (rows : List Row) (a : Paged) : Type 0 where
   pub short-code : n < 2 → pagedNumber a ≡ 6
   pub rows-are : 2 ≤ n → rows ≡ paged
   pub code : 2 ≤ n → pagedNumber a ≡ 0
-  pub counts : 2 ≤ n → pagedCount a ≡ 2
+  pub counts : 2 ≤ n → pagedRows a ≡ 2
   pub more : 2 ≤ n → pagedMore a ≡ true
 
 pub page-on : {n : ℕ} {rows : List Row} {a : Paged} → n ≤ 8 → PageRecords barnMap bothBook 2 firstKey (take n marks) (take n rows) a → drop n rows ≡ drop n marks → PageOn n rows a
@@ -145,7 +145,7 @@ page-on {n} {rows} {a} k h f = record {
   short-code = λ s. short s .code;
   rows-are = λ g. whole-over marks (row 0 0 1 10 1 ∷ row 0 0 2 10 2 ∷ []) rows n g k (done g .holds) f;
   code = λ g. done g .code;
-  counts = λ g. done g .counts;
+  counts = λ g. ap₂ rowsDone (done g .code) (done g .counts);
   more = λ g. done g .says;
 }
   where

@@ -206,7 +206,7 @@ fn page_into(n: usize) -> PageShown
     lend_page(m, b, 2, c, rows, n)
 }
 
-// One line: how many records were lent, the number returned and the count.
+// One line: how many records were lent, the number returned and the rows.
 fn say(n: usize, code: u8, count: usize) {
     let space = [b' '];
     let end = [b'\n'];
@@ -226,7 +226,7 @@ fn check_plan(n: usize)
     let rows = s.rows;
     let a = s.answer;
     let code = a.number();
-    let count = a.count();
+    let count = a.rows();
     say(n, code, count);
     if n < 3 {
         check::expect(same_rows(rows, marked()));
@@ -247,7 +247,7 @@ fn check_page(n: usize)
     let rows = s.rows;
     let a = s.answer;
     let code = a.number();
-    let count = a.count();
+    let count = a.rows();
     say(n, code, count);
     if n < 2 {
         check::expect(same_rows(rows, marked()));

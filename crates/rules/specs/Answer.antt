@@ -1,5 +1,5 @@
 -- The calls' answers: the numbers of the table, their order, and what is left in the caller's list.
-use Prim.Native.Nat.{ℕ, _+_, _≤_, _<_}
+use Prim.Native.Nat.{ℕ, zero, suc, _+_, _≤_, _<_}
 use mathlib.Core.Path.{_≡_}
 use mathlib.Core.Bool.{Bool, false}
 use mathlib.Core.List.{List, _++_, List·Memᴰ}
@@ -8,7 +8,7 @@ use Rattle.rules.specs.declared.Row.{Row}
 use Rattle.rules.specs.declared.Map.{Map}
 use Rattle.rules.specs.declared.Book.{Book}
 use Rattle.rules.specs.declared.Refusal.{Refusal}
-use Rattle.rules.specs.declared.Refusal.the-variants.{BadMap, BadBook, OffMap, OffDay, NoPlan, ShortList, FullBook, NoTickets, UnknownTicket, BadSize, BadCursor, BadFrame}
+use Rattle.rules.specs.declared.Refusal.the-variants.{BadMap, BadBook, OffMap, OffDay, NoPlan, ShortList, FullBook, NoTickets, UnknownTicket, BadSize, BadCursor, BadFrame, KeysFall, BrokenRun, Overfull, Barred}
 use Rattle.rules.specs.declared.Planned.{Planned}
 use Rattle.rules.specs.declared.Planned.the-variants.{Done, Refused}
 use Rattle.rules.specs.declared.Booked.{Booked}
@@ -43,6 +43,34 @@ number UnknownTicket = 9
 number BadSize = 10
 number BadCursor = 11
 number BadFrame = 12
+number (KeysFall i) = 13
+number (BrokenRun i) = 14
+number (Overfull i) = 15
+number (Barred i) = 16
+
+-- "the answer carries the number, from 1, of the first stored row": 0 beside every other number
+abbrev pub faultRow : Refusal → ℕ
+faultRow BadMap = 0
+faultRow BadBook = 0
+faultRow OffMap = 0
+faultRow OffDay = 0
+faultRow NoPlan = 0
+faultRow ShortList = 0
+faultRow FullBook = 0
+faultRow NoTickets = 0
+faultRow UnknownTicket = 0
+faultRow BadSize = 0
+faultRow BadCursor = 0
+faultRow BadFrame = 0
+faultRow (KeysFall i) = i
+faultRow (BrokenRun i) = i
+faultRow (Overfull i) = i
+faultRow (Barred i) = i
+
+-- the rows that an answer counts: none beside a refusal, whose count is the row that it names
+abbrev pub rowsDone : ℕ → ℕ → ℕ
+rowsDone zero c = c
+rowsDone (suc n) c = 0
 
 -- ---- plan
 
@@ -56,7 +84,10 @@ plannedArrival (Refused r) = 0
 
 abbrev pub plannedCount : Planned → ℕ
 plannedCount (Done t) = t .count
-plannedCount (Refused r) = 0
+plannedCount (Refused r) = faultRow r
+
+abbrev pub plannedRows : Planned → ℕ
+plannedRows r = rowsDone (plannedNumber r) (plannedCount r)
 
 -- the numbers returned, and what the caller's list then holds
 pub record Planning {A : Type 0} (n a c : ℕ) (list out : List A) (r : Planned) : Type 0 where
@@ -90,7 +121,7 @@ abbrev pub PlanSound : Yard → List Row → ℕ → ℕ → ℕ → List ℕ �
 PlanSound Y rows start dest s was out r = PlanAnswers (records was) (λ l. written l was) Y rows start dest s was out r
 
 abbrev pub PlanSays : Papers → ℕ → ℕ → ℕ → List ℕ → List ℕ → Planned → Type 0
-PlanSays g start dest s was out r = Checked g (λ n. PlanRefused n was out r) (PlanSound (g .yard) (g .rows) start dest s was out r)
+PlanSays g start dest s was out r = Checked g (λ n i. Planning n 0 i was out r) (PlanSound (g .yard) (g .rows) start dest s was out r)
 
 abbrev pub PlanIs : Map → Book → ℕ → ℕ → ℕ → List ℕ → List ℕ → Planned → Type 0
 PlanIs m b start dest s was out r = PlanSays (papersOf m b) start dest s was out r
@@ -111,7 +142,10 @@ bookedArrival (NotBooked r) = 0
 
 abbrev pub bookedCount : Booked → ℕ
 bookedCount (Issues i) = i .count
-bookedCount (NotBooked r) = 0
+bookedCount (NotBooked r) = faultRow r
+
+abbrev pub bookedRows : Booked → ℕ
+bookedRows r = rowsDone (bookedNumber r) (bookedCount r)
 
 -- the numbers returned, and the book after
 pub record BookingIs (n k a c : ℕ) (book : Book) (r : Booking) : Type 0 where
@@ -143,7 +177,7 @@ module _ (Y : Yard) (rows : List Row) (b : Book) (start dest s : ℕ) (r : Booki
       (BookDone plan b r)))))
 
 abbrev pub BookIs : Map → Book → ℕ → ℕ → ℕ → Booking → Type 0
-BookIs m b start dest s r = Checked (papersOf m b) (λ n. BookRefused n b r) (BookSound (mapYard m) (rowsOf b) b start dest s r)
+BookIs m b start dest s r = Checked (papersOf m b) (λ n i. BookingIs n 0 0 i b r) (BookSound (mapYard m) (rowsOf b) b start dest s r)
 
 -- ---- cancel
 
@@ -153,7 +187,7 @@ cancelledNumber (NotCancelled r) = number r
 
 abbrev pub cancelledCount : Cancelled → ℕ
 cancelledCount (Removes c) = c
-cancelledCount (NotCancelled r) = 0
+cancelledCount (NotCancelled r) = faultRow r
 
 pub record CancellingIs (n c : ℕ) (book : Book) (r : Cancelling) : Type 0 where
   pub code : cancelledNumber (r .answer) ≡ n
@@ -178,7 +212,7 @@ abbrev pub CancelSound : Book → ℕ → Cancelling → Type 0
 CancelSound b ticket r = Unless (Known (rowsOf b) ticket) (CancelRefused 9 b r) (CancelDone ticket b r)
 
 abbrev pub CancelIs : Map → Book → ℕ → Cancelling → Type 0
-CancelIs m b ticket r = Checked (papersOf m b) (λ n. CancelRefused n b r) (CancelSound b ticket r)
+CancelIs m b ticket r = Checked (papersOf m b) (λ n i. CancellingIs n i b r) (CancelSound b ticket r)
 
 -- ---- page
 
@@ -188,7 +222,10 @@ pagedNumber (NotShown r) = number r
 
 abbrev pub pagedCount : Paged → ℕ
 pagedCount (Shows s) = s .count
-pagedCount (NotShown r) = 0
+pagedCount (NotShown r) = faultRow r
+
+abbrev pub pagedRows : Paged → ℕ
+pagedRows r = rowsDone (pagedNumber r) (pagedCount r)
 
 abbrev pub pagedMore : Paged → Bool
 pagedMore (Shows s) = s .more
@@ -234,7 +271,7 @@ abbrev pub PageSound : Yard → List Row → ℕ → Key → List ℕ → List �
 PageSound Y rows size k was out r = PageAnswers (records was) (λ l. written l was) Y rows size k was out r
 
 abbrev pub PageSays : Papers → ℕ → Key → List ℕ → List ℕ → Paged → Type 0
-PageSays g size k was out r = Checked g (λ n. PageRefused n was out r) (PageSound (g .yard) (g .rows) size k was out r)
+PageSays g size k was out r = Checked g (λ n i. PagingIs n i false firstKey was out r) (PageSound (g .yard) (g .rows) size k was out r)
 
 abbrev pub PageIs : Map → Book → ℕ → Key → List ℕ → List ℕ → Paged → Type 0
 PageIs m b size k was out r = PageSays (papersOf m b) size k was out r
@@ -247,8 +284,8 @@ over was rows = rows ++ drop (length rows) was
 
 abbrev pub PlanRecords : Map → Book → ℕ → ℕ → ℕ → List Row → List Row → Planned → Type 0
 PlanRecords m b start dest s was out r =
-    Checked (papersOf m b) (λ n. PlanRefused n was out r) (PlanAnswers (length was) (over was) (mapYard m) (rowsOf b) start dest s was out r)
+    Checked (papersOf m b) (λ n i. Planning n 0 i was out r) (PlanAnswers (length was) (over was) (mapYard m) (rowsOf b) start dest s was out r)
 
 abbrev pub PageRecords : Map → Book → ℕ → Key → List Row → List Row → Paged → Type 0
 PageRecords m b size k was out r =
-    Checked (papersOf m b) (λ n. PageRefused n was out r) (PageAnswers (length was) (over was) (mapYard m) (rowsOf b) size k was out r)
+    Checked (papersOf m b) (λ n i. PagingIs n i false firstKey was out r) (PageAnswers (length was) (over was) (mapYard m) (rowsOf b) size k was out r)

@@ -28,32 +28,50 @@ pub record Whole (Y : Yard) (rows : List Row) (ticket : ℕ) : Type 0 where
   pub booked : (r : Row) → List·Memᴰ r (runRows ticket plan) → List·Memᴰ r rows
   pub only : (r : Row) → List·Memᴰ r rows → r .ticket ≡ ticket → List·Memᴰ r (runRows ticket plan)
 
--- "So too in a well-formed book": no row that goes on is barred among these rows
+-- "A well-formed book has each ticket's rows as a whole plan of its own on the map (the second s being its first entry)"
+abbrev pub AllWhole : Yard → List Row → Type 0
+AllWhole Y rows = (r : Row) → List·Memᴰ r rows → Whole Y rows (r .ticket)
+
+-- "with load .. kept among all rows"
+abbrev pub Room : Yard → List Row → Type 0
+Room Y rows = (p t : ℕ) → p < Y .places → load rows p t ≤ Y .cap p
+
+-- ".. and exchange": no row that goes on is barred among these rows
 abbrev pub Unbarred : List Row → Type 0
 Unbarred rows = (r : Row) → List·Memᴰ r rows → (r .next ≡ r .place → ⊥) → Barred rows (r .place) (r .next) (r .exit) → ⊥
 
-pub record WellFormed (Y : Yard) (rows : List Row) (next-ticket : ℕ) : Type 0 where
-  -- "A book holds at most 1,024 rows in strictly rising key order, and the next ticket number, 1 to 1,000,000."
-  pub few : length rows ≤ rowLimit
+-- what is asked of a book in any of its forms: first its counts and numbers, as `counts` says it of the form, then its rows
+pub record Formed (counts : Type 0) (Y : Yard) (rows : List Row) : Type 0 where
+  pub counted : counts
+  -- "in strictly rising key order"
   pub rising : Rising rows
+  pub whole : AllWhole Y rows
+  pub room : Room Y rows
+  pub exchange : Unbarred rows
+
+-- "Refusal 2 stays for counts, ranges, spare slots and the next ticket number": of rows alone, without spare slots.
+-- "A book holds at most 1,024 rows .., and the next ticket number, 1 to 1,000,000."
+pub record Counted (Y : Yard) (rows : List Row) (next-ticket : ℕ) : Type 0 where
+  pub few : length rows ≤ rowLimit
   pub ticket-from : 1 ≤ next-ticket
   pub ticket-to : next-ticket ≤ ticketLimit
   pub ranges : (i : ℕ) → i < length rows → Ranges Y next-ticket (rowAt rows i)
-  -- "A well-formed book has each ticket's rows as a whole plan of its own on the map (the second s being its first entry)"
-  pub whole : (r : Row) → List·Memᴰ r rows → Whole Y rows (r .ticket)
-  -- "with load and exchange kept among all rows"
-  pub room : (p t : ℕ) → p < Y .places → load rows p t ≤ Y .cap p
-  pub exchange : Unbarred rows
+
+abbrev pub WellFormed : Yard → List Row → ℕ → Type 0
+WellFormed Y rows next-ticket = Formed (Counted Y rows next-ticket) Y rows
 
 -- the rows of the array form, those that the count names
 abbrev pub rowsOf : Book → List Row
 rowsOf b = take (b .count) (b .rows)
 
-pub record GoodBook (Y : Yard) (b : Book) : Type 0 where
+pub record CountedBook (Y : Yard) (b : Book) : Type 0 where
   pub fits : b .count ≤ rowLimit
   -- "Slots past the count hold zeros."
   pub spare : (i : ℕ) → b .count ≤ i → i < rowLimit → rowAt (b .rows) i ≡ noRow
-  pub formed : WellFormed Y (rowsOf b) (b .«next_ticket»)
+  pub counts : Counted Y (rowsOf b) (b .«next_ticket»)
+
+abbrev pub GoodBook : Yard → Book → Type 0
+GoodBook Y b = Formed (CountedBook Y b) Y (rowsOf b)
 
 -- the array form of these rows
 abbrev pub bookOf : List Row → ℕ → Book

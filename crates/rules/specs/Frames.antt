@@ -20,7 +20,7 @@ use Rattle.rules.specs.Rows.{bit}
 use Rattle.rules.specs.Book.{bookOf}
 use Rattle.rules.specs.Bytes.{byteAt, num3, bytes2, bytes3, placeSize, placeIn, linkSize, linkIn, rowSize, listSize, keyIn}
 use Rattle.rules.specs.Gate.{Unless}
-use Rattle.rules.specs.Answer.{PlanIs, BookIs, CancelIs, PageIs, plannedNumber, plannedArrival, plannedCount, bookedNumber, bookedTicket, bookedArrival, bookedCount, cancelledNumber, cancelledCount, pagedNumber, pagedCount, pagedMore}
+use Rattle.rules.specs.Answer.{PlanIs, BookIs, CancelIs, PageIs, plannedNumber, plannedArrival, plannedCount, plannedRows, bookedNumber, bookedTicket, bookedArrival, bookedCount, cancelledNumber, cancelledCount, pagedNumber, pagedCount, pagedRows, pagedMore}
 
 -- "uppercase hexadecimal, two digits a byte"
 abbrev pub digitBy : Bool → ℕ → ℕ
@@ -98,7 +98,7 @@ answerList = replicate listSize 0
 
 -- "plan adds arrival(3) count(2), book ticket(3) arrival(3) count(2), cancel count(2), page count(1) more(1)"
 abbrev pub planLines : Planned → List ℕ → List ℕ
-planLines r list = lineOf (after00 (plannedNumber r) (bytes3 (plannedArrival r) ++ bytes2 (plannedCount r))) ++ rowLines (plannedCount r) list
+planLines r list = lineOf (after00 (plannedNumber r) (bytes3 (plannedArrival r) ++ bytes2 (plannedCount r))) ++ rowLines (plannedRows r) list
 
 abbrev pub bookLines : Booking → List ℕ
 bookLines r = lineOf (after00 (bookedNumber (r .answer)) (bytes3 (bookedTicket (r .answer)) ++ (bytes3 (bookedArrival (r .answer)) ++ bytes2 (bookedCount (r .answer)))))
@@ -107,7 +107,7 @@ abbrev pub cancelLines : Cancelling → List ℕ
 cancelLines r = lineOf (after00 (cancelledNumber (r .answer)) (bytes2 (cancelledCount (r .answer))))
 
 abbrev pub pageLines : Paged → List ℕ → List ℕ
-pageLines r list = lineOf (after00 (pagedNumber r) (pagedCount r ∷ (bit (pagedMore r) ∷ []))) ++ rowLines (pagedCount r) list
+pageLines r list = lineOf (after00 (pagedNumber r) (pagedCount r ∷ (bit (pagedMore r) ∷ []))) ++ rowLines (pagedRows r) list
 
 -- the state after, and what is printed
 pub record Said (s : State) (out : List ℕ) (s′ : State) (said : List ℕ) : Type 0 where

@@ -10,9 +10,12 @@ pub mod Window
 pub mod Chosen
 pub mod Bytes
 pub mod ByteLaws
+pub mod Fault
+pub mod FaultLaws
 pub mod Gate
 pub mod GateLaws
 pub mod Answer
+pub mod AnswerLaws
 pub mod Portal
 pub mod Frames
 pub mod Program

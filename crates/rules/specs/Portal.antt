@@ -10,7 +10,7 @@ use Rattle.rules.specs.declared.Planned.{Planned}
 use Rattle.rules.specs.declared.Paged.{Paged}
 use Rattle.rules.specs.Map.{Yard, yardOf, MapRules}
 use Rattle.rules.specs.Rows.{Key, bit}
-use Rattle.rules.specs.Book.{WellFormed}
+use Rattle.rules.specs.Book.{Formed, Counted}
 use Rattle.rules.specs.Bytes.{num2, num3, placeSize, placesFrom, linkSize, linksFrom, rowSize, rowsFrom}
 use Rattle.rules.specs.Gate.{Papers}
 use Rattle.rules.specs.Answer.{PlanSays, PageSays, plannedNumber, plannedArrival, plannedCount, pagedNumber, pagedCount, pagedMore}
@@ -38,15 +38,20 @@ sliceRows s = rowsFrom s 5 (num2 s 3)
 abbrev pub sliceTicket : List ℕ → ℕ
 sliceTicket s = num3 s 0
 
-pub record BookSlice (Y : Yard) (s : List ℕ) : Type 0 where
-  pub counts : 5 ≤ length s
+-- "such a book slice with 2"
+pub record CountedSlice (Y : Yard) (s : List ℕ) : Type 0 where
+  pub head : 5 ≤ length s
   pub fits : length s ≡ 5 + rowSize * num2 s 3
-  pub formed : WellFormed Y (sliceRows s) (sliceTicket s)
+  pub counts : Counted Y (sliceRows s) (sliceTicket s)
+
+abbrev pub BookSlice : Yard → List ℕ → Type 0
+BookSlice Y s = Formed (CountedSlice Y s) Y (sliceRows s)
 
 abbrev pub slicePapers : List ℕ → List ℕ → Papers
-slicePapers map book = record { map-good = MapSlice map; book-good = BookSlice (sliceYard map) book; yard = sliceYard map; rows = sliceRows book }
+slicePapers map book = record { map-good = MapSlice map; counted = CountedSlice (sliceYard map) book; yard = sliceYard map; rows = sliceRows book }
 
 -- "The result is one number: the refusal number times 2^32, plus, when done, arrival (for a page: more, 1 or 0) times 2,048 plus count."
+-- "In the portal's number the row stands as the count."
 abbrev pub oneNumber : ℕ → ℕ → ℕ → ℕ
 oneNumber n a c = n * 4294967296 + (a * 2048 + c)
 

@@ -15,7 +15,7 @@ use Rattle.rules.specs.declared.Paged.{Paged}
 use Rattle.rules.specs.Rows.{Key, rowKey, firstKey, rowAt, Rising}
 use Rattle.rules.specs.Book.{rowsOf}
 use Rattle.rules.specs.Bytes.{rowsFrom}
-use Rattle.rules.specs.Answer.{PlanIs, BookIs, CancelIs, PageIs, bookedCount, pagedNumber, pagedCount, pagedMore, pagedCursor}
+use Rattle.rules.specs.Answer.{PlanIs, BookIs, CancelIs, PageIs, bookedRows, pagedNumber, pagedCount, pagedMore, pagedCursor}
 
 -- ---- the events, all over one map
 
@@ -77,7 +77,7 @@ shown (p ∷ ps) = p .shows ++ shown ps
 abbrev pub bookedBy : {m : Map} {b c : Book} → Others m b c → ℕ
 bookedBy rests = 0
 bookedBy (plans h o) = bookedBy o
-bookedBy (books {r = r} h o) = bookedCount (r .answer) + bookedBy o
+bookedBy (books {r = r} h o) = bookedRows (r .answer) + bookedBy o
 bookedBy (cancels h o) = bookedBy o
 bookedBy (looks h o) = bookedBy o
 

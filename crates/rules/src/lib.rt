@@ -4,7 +4,7 @@ ghost use mathlib.Core.Path.{_≡_};
 ghost use Rattle.rules.specs.Limits.{day, placeLimit, capacityLimit, durationLimit, linkLimit, rowLimit, ticketLimit, planLimit, pageLimit};
 ghost use Rattle.rules.specs.Bytes.{placeSize, linkSize, rowSize, rowLine, listSize, answerRoom};
 ghost use Rattle.rules.specs.Rows.{row, noRow, cursorKey, rowKey, firstKey, lessb};
-ghost use Rattle.rules.specs.Answer.{number, plannedNumber, plannedArrival, plannedCount, pagedNumber, pagedCount, pagedMore};
+ghost use Rattle.rules.specs.Answer.{number, faultRow, plannedNumber, plannedArrival, plannedRows, pagedNumber, pagedRows, pagedMore};
 
 pub struct Place {
     pub capacity: u8,
@@ -168,6 +168,10 @@ pub enum Refusal {
     BadSize,
     BadCursor,
     BadFrame,
+    KeysFall(usize),
+    BrokenRun(usize),
+    Overfull(usize),
+    Barred(usize),
 }
 
 impl Refusal {
@@ -188,6 +192,34 @@ impl Refusal {
             Refusal::BadSize => 10,
             Refusal::BadCursor => 11,
             Refusal::BadFrame => 12,
+            Refusal::KeysFall(_) => 13,
+            Refusal::BrokenRun(_) => 14,
+            Refusal::Overfull(_) => 15,
+            Refusal::Barred(_) => 16,
+        }
+    }
+
+    // The number, from 1, of the row at which it shows; 0 where it names none.
+    pub fn row(self) -> usize
+        ensures { λ n. ⌜ n ≡ faultRow self ⌝ }
+    {
+        match self {
+            Refusal::BadMap => 0,
+            Refusal::BadBook => 0,
+            Refusal::OffMap => 0,
+            Refusal::OffDay => 0,
+            Refusal::NoPlan => 0,
+            Refusal::ShortList => 0,
+            Refusal::FullBook => 0,
+            Refusal::NoTickets => 0,
+            Refusal::UnknownTicket => 0,
+            Refusal::BadSize => 0,
+            Refusal::BadCursor => 0,
+            Refusal::BadFrame => 0,
+            Refusal::KeysFall(i) => i,
+            Refusal::BrokenRun(i) => i,
+            Refusal::Overfull(i) => i,
+            Refusal::Barred(i) => i,
         }
     }
 }
@@ -229,8 +261,8 @@ impl Planned {
     }
 
     // How many rows were written, 0 at a refusal.
-    pub fn count(self) -> usize
-        ensures { λ n. ⌜ n ≡ plannedCount self ⌝ }
+    pub fn rows(self) -> usize
+        ensures { λ n. ⌜ n ≡ plannedRows self ⌝ }
     {
         match self {
             Planned::Done(t) => t.count,
@@ -288,8 +320,8 @@ impl Paged {
     }
 
     // How many rows were written, 0 at a refusal.
-    pub fn count(self) -> usize
-        ensures { λ n. ⌜ n ≡ pagedCount self ⌝ }
+    pub fn rows(self) -> usize
+        ensures { λ n. ⌜ n ≡ pagedRows self ⌝ }
     {
         match self {
             Paged::Done(s) => s.count,

@@ -116,7 +116,7 @@ module _ {Y : Yard} {rows : List Row} {t : ℕ} (rules : YardRules Y) (W : WellF
 
 pub booking-next : {m : Map} {b : Book} {start dest s : ℕ} {r : Booking} → BookIs m b start dest s r → b .«next_ticket» ≤ r .book .«next_ticket»
 booking-next {b} {r} =
-    checked (λ n _. same) (λ M B. unless same (λ on. unless same (λ d. unless same (λ t. unless same (λ some c. unless same (λ fits x. up x refl) (c .2))))))
+    checked (λ n i _. same) (λ M B. unless same (λ on. unless same (λ d. unless same (λ t. unless same (λ some c. unless same (λ fits x. up x refl) (c .2))))))
   where
     same : {n k a c : ℕ} → BookingIs n k a c b r → b .«next_ticket» ≤ r .book .«next_ticket»
     same x = omega (arith, ap (λ (z : Book). z .«next_ticket») (x .holds))
@@ -125,7 +125,7 @@ booking-next {b} {r} =
     up x e = omega (arith, e, ap (λ (z : Book). z .«next_ticket») (x .holds))
 
 pub cancelling-next : {m : Map} {b : Book} {ticket : ℕ} {r : Cancelling} → CancelIs m b ticket r → r .book .«next_ticket» ≡ b .«next_ticket»
-cancelling-next {b} {r} = checked (λ n _. same) (λ M B. unless same (λ known x. ap (λ (z : Book). z .«next_ticket») (x .holds)))
+cancelling-next {b} {r} = checked (λ n i _. same) (λ M B. unless same (λ known x. ap (λ (z : Book). z .«next_ticket») (x .holds)))
   where
     same : {n c : ℕ} → CancellingIs n c b r → r .book .«next_ticket» ≡ b .«next_ticket»
     same x = ap (λ (z : Book). z .«next_ticket») (x .holds)

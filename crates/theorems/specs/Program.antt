@@ -1,11 +1,12 @@
--- What `lanebook` keeps from line to line: the book is well formed on the map so far, so that no line is ever answered with 2.
-use Prim.Native.Nat.{ℕ, zero, suc, _%_}
+-- What `lanebook` keeps from line to line: the book is well formed on the map so far, so that no line is ever answered with a number of a bad book.
+use Prim.Native.Nat.{ℕ, zero, suc, _/_, _%_}
 use mathlib.Core.Path.{_≡_, refl, sym, ap, subst, _∙_}
 use mathlib.Core.Logic.{⊎-elim}
-use mathlib.Core.Bool.{false}
+use mathlib.Core.Bool.{Bool, true, false, _&&_, _||_}
 use mathlib.Core.List.{List, [], _∷_, _++_, append-nil}
 use native.Mathlib.Omega.{arith}
 use lib.ListN.{getD}
+use lib.Dec.{eqb, leb}
 use Rattle.laws.specs.Order.{eq-or-ne}
 use Rattle.laws.specs.Tests.{not-both}
 use Rattle.rules.specs.declared.Map.{Map}
@@ -80,55 +81,68 @@ pub lines-sound : {s s′ : State} {lines : List (List ℕ)} {said : List ℕ} �
 lines-sound none S = S
 lines-sound (more p r) S = lines-sound r (line-sound S p)
 
--- ---- 2 never comes
+-- ---- no number of a bad book ever comes
 
-module _ {m : Map} {b : Book} (B : GoodBook (mapYard m) b) where
-  plan-not-2 : {start dest s : ℕ} {was out : List ℕ} {r : Planned} → PlanIs m b start dest s was out r → plannedNumber r % 16 ≡ 2 → ⊥
-  plan-not-2 P e =
-      checked-good B (λ x. omega (arith, x .code)) (λ M. unless (λ x. omega (arith, x .code)) (λ on. unless (λ x. omega (arith, x .code))
-      (λ d. unless (λ x. omega (arith, x .code)) (λ some c. unless (λ x. omega (arith, x .code)) (λ fits x. omega (arith, x .code)) (c .2))))) P
+-- 2, and 13 to 16
+abbrev pub ofBook : ℕ → Bool
+ofBook n = eqb n 2 || (leb 13 n && leb n 16)
 
-  book-not-2 : {start dest s : ℕ} {r : Booking} → BookIs m b start dest s r → bookedNumber (r .answer) % 16 ≡ 2 → ⊥
-  book-not-2 P e =
-      checked-good B (λ x. omega (arith, x .code)) (λ M. unless (λ x. omega (arith, x .code)) (λ on. unless (λ x. omega (arith, x .code))
-      (λ d. unless (λ x. omega (arith, x .code)) (λ t. unless (λ x. omega (arith, x .code))
-      (λ some c. unless (λ x. omega (arith, x .code)) (λ fits x. omega (arith, x .code)) (c .2)))))) P
+module _ {k : ℕ} (bad : ofBook k ≡ true) where
+  other : {n j : ℕ} → n ≡ k → n ≡ j → ofBook j ≡ false → ⊥
+  other e c good = not-both bad (ap ofBook (sym e ∙ c) ∙ good)
 
-  cancel-not-2 : {ticket : ℕ} {r : Cancelling} → CancelIs m b ticket r → cancelledNumber (r .answer) % 16 ≡ 2 → ⊥
-  cancel-not-2 P e = checked-good B (λ x. omega (arith, x .code)) (λ M. unless (λ x. omega (arith, x .code)) (λ k x. omega (arith, x .code))) P
+  module _ {m : Map} {b : Book} (B : GoodBook (mapYard m) b) where
+    plan-other : {start dest s : ℕ} {was out : List ℕ} {r : Planned} → PlanIs m b start dest s was out r → plannedNumber r ≡ k → ⊥
+    plan-other P e =
+        checked-good B (λ x. other e (x .code) refl) (λ M. unless (λ x. other e (x .code) refl) (λ on. unless (λ x. other e (x .code) refl)
+        (λ d. unless (λ x. other e (x .code) refl) (λ some c. unless (λ x. other e (x .code) refl) (λ fits x. other e (x .code) refl) (c .2))))) P
 
-  page-not-2 : {size : ℕ} {k : Key} {was out : List ℕ} {r : Paged} → PageIs m b size k was out r → pagedNumber r % 16 ≡ 2 → ⊥
-  page-not-2 P e =
-      checked-good B (λ x. omega (arith, x .code)) (λ M. unless (λ x. omega (arith, x .code)) (λ sized. unless (λ x. omega (arith, x .code))
-      (λ fits. unless (λ x. omega (arith, x .code)) (λ room x. omega (arith, x .code))))) P
+    book-other : {start dest s : ℕ} {r : Booking} → BookIs m b start dest s r → bookedNumber (r .answer) ≡ k → ⊥
+    book-other P e =
+        checked-good B (λ x. other e (x .code) refl) (λ M. unless (λ x. other e (x .code) refl) (λ on. unless (λ x. other e (x .code) refl)
+        (λ d. unless (λ x. other e (x .code) refl) (λ t. unless (λ x. other e (x .code) refl)
+        (λ some c. unless (λ x. other e (x .code) refl) (λ fits x. other e (x .code) refl) (c .2)))))) P
 
--- the second digit of an answer is its number's
-number-digit : (n : ℕ) (answer rest : List ℕ) → getD (lineOf (after00 n answer) ++ rest) 1 0 ≡ digit (n % 16)
+    cancel-other : {ticket : ℕ} {r : Cancelling} → CancelIs m b ticket r → cancelledNumber (r .answer) ≡ k → ⊥
+    cancel-other P e = checked-good B (λ x. other e (x .code) refl) (λ M. unless (λ x. other e (x .code) refl) (λ known x. other e (x .code) refl)) P
+
+    page-other : {size : ℕ} {c : Key} {was out : List ℕ} {r : Paged} → PageIs m b size c was out r → pagedNumber r ≡ k → ⊥
+    page-other P e =
+        checked-good B (λ x. other e (x .code) refl) (λ M. unless (λ x. other e (x .code) refl) (λ sized. unless (λ x. other e (x .code) refl)
+        (λ fits. unless (λ x. other e (x .code) refl) (λ room x. other e (x .code) refl)))) P
+
+-- the first two digits of an answer are its number's
+number-digits : (n : ℕ) (answer rest : List ℕ)
+    → (getD (lineOf (after00 n answer) ++ rest) 0 0 ≡ digit (n / 16)) × (getD (lineOf (after00 n answer) ++ rest) 1 0 ≡ digit (n % 16))
 unfolding hexOf
-number-digit zero answer rest = refl
-number-digit (suc n) answer rest = refl
+number-digits zero answer rest = (refl, refl)
+number-digits (suc n) answer rest = (refl, refl)
 
-printed : {s s′ : State} {said : List ℕ} (n : ℕ) (answer rest : List ℕ) → Said s (lineOf (after00 n answer) ++ rest) s′ said → said ≡ lineOf (2 ∷ []) → n % 16 ≡ 2
-unfolding digit hexOf
-printed n answer rest x e = digit-injective (n % 16) 2 (omega arith) (omega arith) (sym (number-digit n answer rest) ∙ ap (λ (l : List ℕ). getD l 1 0) (sym (x .prints) ∙ e) ∙ number-digit 2 [] [])
+printed : {s s′ : State} {said : List ℕ} (n k : ℕ) (answer rest : List ℕ) → Said s (lineOf (after00 n answer) ++ rest) s′ said → said ≡ lineOf (k ∷ []) → n ≡ k
+unfolding hexOf
+printed n k answer rest x e =
+    let d = number-digits n answer rest in
+    let u = digit-injective (n / 16) (k / 16) (sym (d .0) ∙ ap (λ (l : List ℕ). getD l 0 0) (sym (x .prints) ∙ e)) in
+    let v = digit-injective (n % 16) (k % 16) (sym (d .1) ∙ ap (λ (l : List ℕ). getD l 1 0) (sym (x .prints) ∙ e)) in
+    omega arith
 
-printed-line : {s s′ : State} {said : List ℕ} (n : ℕ) (answer : List ℕ) → Said s (lineOf (after00 n answer)) s′ said → said ≡ lineOf (2 ∷ []) → n % 16 ≡ 2
-printed-line n answer x = printed n answer [] (record { next = x .next; prints = x .prints ∙ sym (append-nil (lineOf (after00 n answer))) })
+printed-line : {s s′ : State} {said : List ℕ} (n k : ℕ) (answer : List ℕ) → Said s (lineOf (after00 n answer)) s′ said → said ≡ lineOf (k ∷ []) → n ≡ k
+printed-line n k answer x = printed n k answer [] (record { next = x .next; prints = x .prints ∙ sym (append-nil (lineOf (after00 n answer))) })
 
-pub not-02 : {s s′ : State} {line said : List ℕ} → Sound s → LineSays s line s′ said → said ≡ lineOf (2 ∷ []) → ⊥
-not-02 {s} {s′} {line} {said} S p e =
+pub never-of-book : {s s′ : State} {line said : List ℕ} → Sound s → LineSays s line s′ said → (k : ℕ) → ofBook k ≡ true → said ≡ lineOf (k ∷ []) → ⊥
+never-of-book {s} {s′} {line} {said} S p k bad e =
     by-kind {X = ⊥}
     twelve
     (λ _. unless twelve (λ c x. nought x))
     (λ _. unless twelve (λ c x. nought x))
-    (λ _ p. plan-not-2 (S .good) (p .is) (printed (plannedNumber (p .answer)) _ _ (p .said-so) e))
-    (λ _ p. book-not-2 (S .good) (p .is) (printed-line (bookedNumber (p .answer .answer)) _ (p .said-so) e))
-    (λ _ p. cancel-not-2 (S .good) (p .is) (printed-line (cancelledNumber (p .answer .answer)) _ (p .said-so) e))
-    (λ _ p. page-not-2 (S .good) (p .is) (printed (pagedNumber (p .answer)) _ _ (p .said-so) e))
+    (λ _ p. plan-other bad (S .good) (p .is) (printed (plannedNumber (p .answer)) k _ _ (p .said-so) e))
+    (λ _ p. book-other bad (S .good) (p .is) (printed-line (bookedNumber (p .answer .answer)) k _ (p .said-so) e))
+    (λ _ p. cancel-other bad (S .good) (p .is) (printed-line (cancelledNumber (p .answer .answer)) k _ (p .said-so) e))
+    (λ _ p. page-other bad (S .good) (p .is) (printed (pagedNumber (p .answer)) k _ _ (p .said-so) e))
     p
   where
     twelve : {t : State} → Said t (lineOf (12 ∷ [])) s′ said → ⊥
-    twelve x = let h = printed-line 12 [] x e in omega arith
+    twelve x = other bad (printed-line 12 k [] x e) refl refl
 
     nought : {t : State} → Said t (lineOf (0 ∷ [])) s′ said → ⊥
-    nought x = let h = printed-line 0 [] x e in omega arith
+    nought x = other bad (printed-line 0 k [] x e) refl refl

@@ -5,7 +5,7 @@
 use Prim.Native.Nat.{ℕ, suc, _+_, _≤_, _<_}
 use mathlib.Core.Path.{_≡_, sym, ap, subst, _∙_}
 use mathlib.Core.Logic.{_⊎_, inl, inr, ⊎-elim}
-use mathlib.Core.Bool.{Bool}
+use mathlib.Core.Bool.{Bool, true}
 use mathlib.Core.List.{List, [], _∷_, _++_, List·Memᴰ}
 use native.Mathlib.Omega.{arith}
 use lib.ListN.{length}
@@ -19,28 +19,36 @@ use Rattle.rules.specs.declared.Booking.{Booking}
 use Rattle.rules.specs.declared.Cancelling.{Cancelling}
 use Rattle.rules.specs.Limits.{day}
 use Rattle.rules.specs.Map.{Yard, GoodMap, mapYard}
-use Rattle.rules.specs.Rows.{Key, firstKey, load, Barred, Ring, keep, insertAll}
+use Rattle.rules.specs.Rows.{Key, firstKey, Rising, load, Barred, Ring, keep, insertAll}
 use Rattle.rules.specs.RowLaws.{leads-fewer}
 use Rattle.rules.specs.Plan.{Stay, stayAt, Permitted, arrival, runRows}
-use Rattle.rules.specs.Book.{GoodBook, Whole, rowsOf, bookOf, ofTicket, otherTicket}
+use Rattle.rules.specs.Book.{CountedBook, GoodBook, Whole, Room, Unbarred, rowsOf, bookOf, ofTicket, otherTicket}
 use Rattle.rules.specs.Page.{pageRows, pageMore, lastKey}
 use Rattle.rules.specs.Chosen.{Chosen}
 use Rattle.rules.specs.Bytes.{records, written}
-use Rattle.rules.specs.Gate.{papersOf}
+use Rattle.rules.specs.Fault.{FirstBad, Fault}
+use Rattle.rules.specs.Gate.{Papers, papersOf}
 use Rattle.rules.specs.GateLaws.{unless, past, checked, passed}
-use Rattle.rules.specs.Answer.{over, PlanIs, PlanRecords, Planning, plannedNumber, plannedArrival, plannedCount, BookIs, BookingIs, bookedNumber, bookedTicket, bookedArrival, bookedCount, CancelIs, CancellingIs, Known, cancelledNumber, PageIs, PageRecords, PagingIs, pagedNumber}
+use Rattle.rules.specs.Answer.{over, PlanSays, PlanIs, PlanRecords, Planning, plannedNumber, plannedArrival, plannedCount, BookIs, BookingIs, bookedNumber, bookedTicket, bookedArrival, bookedCount, CancelIs, CancellingIs, Known, cancelledNumber, cancelledCount, PageSays, PageIs, PageRecords, PagingIs, pagedNumber, pagedCount}
 use Rattle.lanes.specs.Yards.{yard-rules}
 use Rattle.lanes.specs.Beginning.{beginning, beginning-permitted, beginning-entry, Lies, stay-lies}
 use Rattle.lanes.specs.Chosen.{chosen-best}
 use Rattle.keeping.specs.Calls.{empty-good, booking-good, cancelling-good}
-use Rattle.keeping.specs.Books.{rows-of-book}
+use Rattle.keeping.specs.Books.{rows-of-book, book-formed}
 use Rattle.keeping.specs.Keeping.{row-ranges, book-rows, rows-book, cancel-rows, rows-cancel}
 use Rattle.rules.specs.Walk.{Others, Walk, Walked}
 use Rattle.walks.specs.WalkLaws.{others-good, walked}
-use Rattle.theorems.specs.Program.{begins-sound, lines-sound, not-02}
+use Rattle.theorems.specs.Program.{begins-sound, lines-sound, ofBook, never-of-book}
+use Rattle.faults.specs.Verdict.{OneVerdict, book-verdict, slice-verdict}
+use Rattle.faults.specs.Rows.{fault-row}
+use Rattle.faults.specs.First.{FirstWrong}
+use Rattle.faults.specs.Unrising.{FirstDrop, first-drop}
+use Rattle.faults.specs.Overfull.{Overfills, first-overfilling}
+use Rattle.faults.specs.Closing.{Closes, first-closing}
+use Rattle.theorems.specs.Faults.{Judged, plan-judged, book-judged, cancel-judged, page-judged}
 use Rattle.theorems.specs.Freed.{load-split, fewer-permit, PermittedRun, run-permitted, cancelling-next, others-next}
 use Rattle.theorems.specs.Rings.{no-ring, barred-ring, ring-barred}
-use Rattle.rules.specs.Portal.{PortalPlan, PortalPage}
+use Rattle.rules.specs.Portal.{MapSlice, sliceYard, sliceRows, CountedSlice, PortalPlan, PortalPage}
 use Rattle.rules.specs.Frames.{lineOf, LineSays, LinesSay, allLines, begins}
 use Rattle.unique.specs.Unique.{no-second-plan, no-second-booking, no-second-cancelling, no-second-page, no-second-portal-plan, no-second-portal-page}
 use Rattle.unique.specs.Line.{no-second-line, no-second-lines}
@@ -67,7 +75,7 @@ pub record Given (m : Map) (b : Book) (start dest s : ℕ) (was out : List ℕ) 
 module _ {m : Map} {b : Book} {start dest s : ℕ} {was out : List ℕ} {r : Planned} (P : PlanIs m b start dest s was out r) where
   pub plan-is-best : plannedNumber r ≡ 0 → Given m b start dest s was out r
   plan-is-best z =
-      checked (λ n h x. absurd (omega (arith, h .some, x .code))) (λ M B. unless wrong (λ on. unless wrong (λ d. unless wrong (λ some c.
+      checked (λ n i h x. absurd (omega (arith, h .some, x .code))) (λ M B. unless wrong (λ on. unless wrong (λ d. unless wrong (λ some c.
       unless wrong (λ fits x. given M B on (c .0) (c .1) x) (c .2))))) P
     where
       wrong : {n a c : ℕ} {l : List ℕ} → Planning (suc n) a c l out r → Given m b start dest s was out r
@@ -76,13 +84,13 @@ module _ {m : Map} {b : Book} {start dest s : ℕ} {was out : List ℕ} {r : Pla
       given : GoodMap m → GoodBook (mapYard m) b → (start < mapYard m .places) × (dest < mapYard m .places) → (plan : List Stay) → Chosen (mapYard m) (rowsOf b) start dest s plan
           → Planning 0 (arrival plan) (length plan) (written (runRows 0 plan) was) out r → Given m b start dest s was out r
       given M B on plan c x =
-          let best = chosen-best (mapYard m) (rowsOf b) start dest s (yard-rules (M .rules) .from-on) (on .1) (B .formed .room) c in
+          let best = chosen-best (mapYard m) (rowsOf b) start dest s (yard-rules (M .rules) .from-on) (on .1) (B .room) c in
           record { plan = plan; permitted = best .0; soonest = best .1; chosen = c; arrives = x .arrives; counts = x .counts; holds = x .holds }
 
   -- "'no plan' is given exactly when none exists by the day's end"
   pub no-plan-exists : plannedNumber r ≡ 5 → (plan : List Stay) → Permitted (mapYard m) (rowsOf b) start dest s plan → ⊥
   no-plan-exists z plan p =
-      checked (λ n h x. h .apart (omega (arith, x .code)) (omega (arith, x .code))) (λ M B. unless (λ u. omega (arith, u .code)) (λ on. unless (λ v. omega (arith, v .code))
+      checked (λ n i h x. h .apart (omega (arith, x .code)) (omega (arith, x .code))) (λ M B. unless (λ u. omega (arith, u .code)) (λ on. unless (λ v. omega (arith, v .code))
       (λ d w. ⊎-elim (λ y. y .0 (plan, p)) (λ y. unless (λ q. omega (arith, q .code)) (λ fits q. omega (arith, q .code)) (y .1 .2)) w))) P
 
   pub none-is-refused : GoodMap m → GoodBook (mapYard m) b → (start < mapYard m .places) × (dest < mapYard m .places) → s ≤ day
@@ -92,7 +100,7 @@ module _ {m : Map} {b : Book} {start dest s : ℕ} {was out : List ℕ} {r : Pla
   -- demand 1: "a refusal changes neither the book nor the caller's answer buffer"
   pub refusal-leaves-the-list : 0 < plannedNumber r → out ≡ was
   refusal-leaves-the-list z =
-      checked (λ n _. left) (λ M B. unless left (λ on. unless left (λ d. unless left (λ some c. unless left (λ fits x. absurd (omega (arith, x .code))) (c .2))))) P
+      checked (λ n i _. left) (λ M B. unless left (λ on. unless left (λ d. unless left (λ some c. unless left (λ fits x. absurd (omega (arith, x .code))) (c .2))))) P
     where
       left : {n a c : ℕ} → Planning n a c was out r → out ≡ was
       left x = x .holds
@@ -128,7 +136,7 @@ pub record Added (m : Map) (b : Book) (start dest s : ℕ) (r : Booking) : Type 
 module _ {m : Map} {b : Book} {start dest s : ℕ} {r : Booking} (P : BookIs m b start dest s r) where
   pub booking-adds : bookedNumber (r .answer) ≡ 0 → Added m b start dest s r
   booking-adds z =
-      checked (λ n h x. absurd (omega (arith, h .some, x .code))) (λ M B. unless wrong (λ on. unless wrong (λ d. unless wrong (λ t. unless wrong (λ some c.
+      checked (λ n i h x. absurd (omega (arith, h .some, x .code))) (λ M B. unless wrong (λ on. unless wrong (λ d. unless wrong (λ t. unless wrong (λ some c.
       unless wrong (λ fits x. added (c .0) (c .1) x) (c .2)))))) P
     where
       wrong : {n k a c : ℕ} {l : Book} → BookingIs (suc n) k a c l r → Added m b start dest s r
@@ -154,7 +162,7 @@ module _ {m : Map} {b : Book} {start dest s : ℕ} {r : Booking} (P : BookIs m b
 
   pub refused-booking-changes-nothing : 0 < bookedNumber (r .answer) → r .book ≡ b
   refused-booking-changes-nothing z =
-      checked (λ n _. left) (λ M B. unless left (λ on. unless left (λ d. unless left (λ t. unless left (λ some c.
+      checked (λ n i _. left) (λ M B. unless left (λ on. unless left (λ d. unless left (λ t. unless left (λ some c.
       unless left (λ fits x. absurd (omega (arith, x .code))) (c .2)))))) P
     where
       left : {n k a c : ℕ} → BookingIs n k a c b r → r .book ≡ b
@@ -169,7 +177,7 @@ pub record Taken (b : Book) (ticket : ℕ) (r : Cancelling) : Type 0 where
 
 module _ {m : Map} {b : Book} {ticket : ℕ} {r : Cancelling} (P : CancelIs m b ticket r) where
   pub cancelling-removes : cancelledNumber (r .answer) ≡ 0 → Taken b ticket r
-  cancelling-removes z = checked (λ n h x. absurd (omega (arith, h .some, x .code))) (λ M B. unless wrong (λ known x. taken x)) P
+  cancelling-removes z = checked (λ n i h x. absurd (omega (arith, h .some, x .code))) (λ M B. unless wrong (λ known x. taken x)) P
     where
       wrong : {n c : ℕ} {l : Book} → CancellingIs (suc n) c l r → Taken b ticket r
       wrong x = absurd (omega (arith, x .code))
@@ -193,7 +201,7 @@ pub record Freed (m : Map) (b : Book) (ticket : ℕ) (r : Cancelling) : Type 0 w
 
 module _ {m : Map} {b : Book} {ticket : ℕ} {r : Cancelling} (P : CancelIs m b ticket r) where
   pub the-room-is-free-again : cancelledNumber (r .answer) ≡ 0 → Freed m b ticket r
-  the-room-is-free-again z = checked (λ n h x. absurd (omega (arith, h .some, x .code))) (λ M B. unless wrong (λ known x. freed M B known x)) P
+  the-room-is-free-again z = checked (λ n i h x. absurd (omega (arith, h .some, x .code))) (λ M B. unless wrong (λ known x. freed M B known x)) P
     where
       wrong : {n c : ℕ} {l : Book} → CancellingIs (suc n) c l r → Freed m b ticket r
       wrong x = absurd (omega (arith, x .code))
@@ -202,20 +210,20 @@ module _ {m : Map} {b : Book} {ticket : ℕ} {r : Cancelling} (P : CancelIs m b 
       freed M B known x =
           let rows = keep (otherTicket ticket) (rowsOf b) in
           let e : rows ≡ rowsOf (r .book) = sym (ap rowsOf (x .holds) ∙ rows-of-book rows (b .«next_ticket»)) in
-          let run : Whole (mapYard m) (rowsOf b) ticket = subst (Whole (mapYard m) (rowsOf b)) (known .has) (B .formed .whole (known .row) (known .booked)) in
+          let run : Whole (mapYard m) (rowsOf b) ticket = subst (Whole (mapYard m) (rowsOf b)) (known .has) (B .whole (known .row) (known .booked)) in
           record {
             load-falls = λ p t. subst (λ (l : List Row). load (rowsOf b) p t ≡ load l p t + load (keep (ofTicket ticket) (rowsOf b)) p t) e (load-split p t ticket (rowsOf b));
             still-permitted = λ {start} {dest} {s} {plan} h. subst (λ (l : List Row). Permitted (mapYard m) l start dest s plan) e (fewer-permit (otherTicket ticket) h);
             run = run;
-            permitted-again = subst (λ (l : List Row). PermittedRun (mapYard m) l (run .plan)) e (run-permitted (yard-rules (M .rules)) (B .formed) ticket run);
+            permitted-again = subst (λ (l : List Row). PermittedRun (mapYard m) l (run .plan)) e (run-permitted (yard-rules (M .rules)) (book-formed B) ticket run);
           }
 
   -- "a cancelled ticket's number given out again" can't be: whatever others plan, book, cancel and look at in between, no booking issues it
   pub a-cancelled-ticket-is-never-issued-again : cancelledNumber (r .answer) ≡ 0 → {c : Book} → Others m (r .book) c → {start dest s : ℕ} {later : Booking} → BookIs m c start dest s later
       → bookedNumber (later .answer) ≡ 0 → bookedTicket (later .answer) ≡ ticket → ⊥
   a-cancelled-ticket-is-never-issued-again z {c} o L done e =
-      checked (λ n h x. omega (arith, h .some, x .code)) (λ M B. unless wrong (λ known x.
-      omega (arith, row-ranges (B .formed) (known .row) (known .booked) .ticket-to, known .has, cancelling-next P, others-next o, booking-adds L done .issues))) P
+      checked (λ n i h x. omega (arith, h .some, x .code)) (λ M B. unless wrong (λ known x.
+      omega (arith, row-ranges (book-formed B) (known .row) (known .booked) .ticket-to, known .has, cancelling-next P, others-next o, booking-adds L done .issues))) P
     where
       wrong : {n c : ℕ} {l : Book} → CancellingIs (suc n) c l r → ⊥
       wrong x = omega (arith, x .code)
@@ -225,7 +233,7 @@ module _ {m : Map} {b : Book} {ticket : ℕ} {r : Cancelling} (P : CancelIs m b 
 pub page-shows : {m : Map} {b : Book} {size : ℕ} {k : Key} {was out : List ℕ} {r : Paged} → PageIs m b size k was out r → pagedNumber r ≡ 0
     → PagingIs 0 (length (pageRows size k (rowsOf b))) (pageMore size k (rowsOf b)) (lastKey k (pageRows size k (rowsOf b))) (written (pageRows size k (rowsOf b)) was) out r
 page-shows {m} {b} {size} {k} {was} {out} {r} P z =
-    checked (λ n h x. absurd (omega (arith, h .some, x .code))) (λ M B. unless wrong (λ sized. unless wrong (λ fits. unless wrong (λ room x. x)))) P
+    checked (λ n i h x. absurd (omega (arith, h .some, x .code))) (λ M B. unless wrong (λ sized. unless wrong (λ fits. unless wrong (λ room x. x)))) P
   where
     wrong : {n c : ℕ} {more : Bool} {j : Key} {l : List ℕ} → PagingIs (suc n) c more j l out r
         → PagingIs 0 (length (pageRows size k (rowsOf b))) (pageMore size k (rowsOf b)) (lastKey k (pageRows size k (rowsOf b))) (written (pageRows size k (rowsOf b)) was) out r
@@ -246,18 +254,19 @@ a-cancellation-keeps-it-good = cancelling-good
 pub the-book-is-always-good : {m : Map} {b : Book} → Others m (bookOf [] 1) b → GoodBook (mapYard m) b
 the-book-is-always-good {m} calls = others-good calls (the-empty-book-is-good (mapYard m))
 
--- so it is in `lanebook` after any lines of input, whatever they are, and no line is ever answered with 2
+-- so it is in `lanebook` after any lines of input, whatever they are, and no line is ever answered with 2 or with one of 13 to 16
 pub lanebook-keeps-it-good : {s : State} {lines : List (List ℕ)} {said : List ℕ} → LinesSay begins lines s said → GoodBook (mapYard (s .map)) (s .book)
 lanebook-keeps-it-good L = lines-sound L begins-sound .good
 
-pub lanebook-never-answers-2 : {s s′ : State} {lines : List (List ℕ)} {said line answer : List ℕ} → LinesSay begins lines s said → LineSays s line s′ answer → answer ≡ lineOf (2 ∷ []) → ⊥
-lanebook-never-answers-2 L = not-02 (lines-sound L begins-sound)
+pub lanebook-never-finds-its-book-bad : {s s′ : State} {lines : List (List ℕ)} {said line answer : List ℕ} → LinesSay begins lines s said → LineSays s line s′ answer
+    → (n : ℕ) → ofBook n ≡ true → answer ≡ lineOf (n ∷ []) → ⊥
+lanebook-never-finds-its-book-bad L = never-of-book (lines-sound L begins-sound)
 
 -- ---- "a crossing at second t is barred if, together with booked crossings at t, it closes a ring of two or more places. So too in a well-formed book"
 -- A ring is a closed walk over places, of any length, each left for the next by a booked crossing of that second (`Ring` in rules/specs/Rows.antt).
 
 pub a-good-book-holds-no-ring : {Y : Yard} {b : Book} → GoodBook Y b → {t : ℕ} {walk : List ℕ} → Ring (rowsOf b) t walk → ⊥
-a-good-book-holds-no-ring B = no-ring (B .formed .exchange)
+a-good-book-holds-no-ring B = no-ring (B .exchange)
 
 -- so that beside a good book a crossing is barred exactly where it closes a ring
 module _ {Y : Yard} {b : Book} (B : GoodBook Y b) (r : Row) (goes-on : r .next ≡ r .place → ⊥) where
@@ -265,10 +274,54 @@ module _ {Y : Yard} {b : Book} (B : GoodBook Y b) (r : Row) (goes-on : r .next �
   what-is-barred-closes-a-ring = barred-ring r (rowsOf b) goes-on
 
   pub what-closes-a-ring-is-barred : {walk : List ℕ} → Ring (r ∷ rowsOf b) (r .exit) walk → Barred (rowsOf b) (r .place) (r .next) (r .exit)
-  what-closes-a-ring-is-barred = ring-barred r (rowsOf b) goes-on (B .formed .exchange)
+  what-closes-a-ring-is-barred = ring-barred r (rowsOf b) goes-on (B .exchange)
 
 pub fewer-rows-bar-no-more : {few rows : List Row} → ((r : Row) → List·Memᴰ r few → List·Memᴰ r rows) → {p q t : ℕ} → Barred few p q t → Barred rows p q t
 fewer-rows-bar-no-more f l = leads-fewer f l
+
+-- ---- what is wrong with a book: "the answer carries the number, from 1, of the first stored row at which that check cannot be met by the rows up to and
+-- including it; for a broken run it is the first row of the lowest such ticket". `Fault` (rules/specs/Fault.antt) says it of each number.
+
+-- exactly one of "good" (0), 2, 13, 14, 15, 16 holds of a book on a good map, at one row: of a book by value, and of a slice
+pub a-book-has-one-verdict : (m : Map) (b : Book) → GoodMap m → OneVerdict (CountedBook (mapYard m) b) (mapYard m) (rowsOf b)
+a-book-has-one-verdict = book-verdict
+
+pub a-slice-has-one-verdict : (map book : List ℕ) → MapSlice map → OneVerdict (CountedSlice (sliceYard map) book) (sliceYard map) (sliceRows book)
+a-slice-has-one-verdict = slice-verdict
+
+-- the row named is a row of the book, and beside 2 there is none
+pub the-row-is-in-the-book : {counts : Type 0} {Y : Yard} (rows : List Row) {n i : ℕ} → Fault counts Y rows n i
+    → ((n ≡ 2) × (i ≡ 0)) ⊎ ((13 ≤ n) × (n ≤ 16) × (1 ≤ i) × (i ≤ length rows))
+the-row-is-in-the-book = fault-row
+
+-- what each call's number and count say of map and book, by value and as slices (`Judged` in Faults.antt): it is done or refused by a number of its own exactly
+-- where both are good, by 1 exactly where the map is not, and else by the one number and row at which the book is at fault
+pub a-plan-tells-the-fault : {g : Papers} {start dest s : ℕ} {was out : List ℕ} {r : Planned} → PlanSays g start dest s was out r
+    → Judged g (plannedNumber r) (plannedCount r)
+a-plan-tells-the-fault = plan-judged
+
+pub a-booking-tells-the-fault : {m : Map} {b : Book} {start dest s : ℕ} {r : Booking} → BookIs m b start dest s r
+    → Judged (papersOf m b) (bookedNumber (r .answer)) (bookedCount (r .answer))
+a-booking-tells-the-fault = book-judged
+
+pub a-cancellation-tells-the-fault : {m : Map} {b : Book} {ticket : ℕ} {r : Cancelling} → CancelIs m b ticket r
+    → Judged (papersOf m b) (cancelledNumber (r .answer)) (cancelledCount (r .answer))
+a-cancellation-tells-the-fault = cancel-judged
+
+pub a-page-tells-the-fault : {g : Papers} {size : ℕ} {k : Key} {was out : List ℕ} {r : Paged} → PageSays g size k was out r
+    → Judged g (pagedNumber r) (pagedCount r)
+a-page-tells-the-fault = page-judged
+
+-- 13 is the first row whose key is not above the one before it; at 15 the row's own place is overfilled by the rows up to it, and at 16 its crossing closes a ring
+-- with rows before it; no earlier row does so
+pub a-13-is-the-first-drop : (rows : List Row) {i : ℕ} → FirstBad Rising rows i → FirstDrop rows i
+a-13-is-the-first-drop = first-drop
+
+pub a-15-is-the-first-to-overfill : (Y : Yard) (rows : List Row) {i : ℕ} → FirstBad (Room Y) rows i → FirstWrong (Overfills Y rows) rows i
+a-15-is-the-first-to-overfill = first-overfilling
+
+pub a-16-is-the-first-to-close-a-ring : (rows : List Row) {i : ℕ} → FirstBad Unbarred rows i → FirstWrong (Closes rows) rows i
+a-16-is-the-first-to-close-a-ring = first-closing
 
 -- ---- demand 3: "Take a walk over one book from the first cursor to a page that says no more .. while others plan, book and cancel between pages."
 -- `Walked` (rules/specs/Walk.antt) has its five sentences.

@@ -18,8 +18,8 @@ pub digit-high : (x : ℕ) → 10 ≤ x → digit x ≡ 55 + x
 unfolding digit
 digit-high x h = rw (le-ltb x 10 h)
 
-pub digit-injective : (x y : ℕ) → x < 16 → y < 16 → digit x ≡ digit y → x ≡ y
-digit-injective x y h k e =
+pub digit-injective : (x y : ℕ) → digit x ≡ digit y → x ≡ y
+digit-injective x y e =
     ⊎-elim
     (λ (a : x < 10). ⊎-elim (λ (b : y < 10). omega (arith, digit-low x a, digit-low y b)) (λ (b : 10 ≤ y). omega (arith, digit-low x a, digit-high y b)) (lt-or-ge y 10))
     (λ (a : 10 ≤ x). ⊎-elim (λ (b : y < 10). omega (arith, digit-high x a, digit-low y b)) (λ (b : 10 ≤ y). omega (arith, digit-high x a, digit-high y b)) (lt-or-ge y 10))
@@ -74,19 +74,17 @@ hex-at-low (x ∷ b) (suc i) h = let e : 2 * suc i + 1 ≡ suc (suc (2 * i + 1))
 abbrev pub AreBytes : List ℕ → Type 0
 AreBytes b = (i : ℕ) → byteAt b i < 256
 
-pub hex-injective : (a b : List ℕ) → AreBytes a → AreBytes b → hexOf a ≡ hexOf b → a ≡ b
+pub hex-injective : (a b : List ℕ) → hexOf a ≡ hexOf b → a ≡ b
 unfolding hexOf
-hex-injective [] [] h k e = refl
-hex-injective [] (y ∷ b) h k e = let n : _≡_ {A = ℕ} 0 1 = cc in absurd (omega arith)
-hex-injective (x ∷ a) [] h k e = let n : _≡_ {A = ℕ} 0 1 = cc in absurd (omega arith)
-hex-injective (x ∷ a) (y ∷ b) h k e =
+hex-injective [] [] e = refl
+hex-injective [] (y ∷ b) e = let n : _≡_ {A = ℕ} 0 1 = cc in absurd (omega arith)
+hex-injective (x ∷ a) [] e = let n : _≡_ {A = ℕ} 0 1 = cc in absurd (omega arith)
+hex-injective (x ∷ a) (y ∷ b) e =
     let p : digit (x / 16) ≡ digit (y / 16) = cc in
     let q : digit (x % 16) ≡ digit (y % 16) = cc in
     let t : hexOf a ≡ hexOf b = cc in
-    let m = h 0 in
-    let n = k 0 in
-    let u = digit-injective (x / 16) (y / 16) (omega arith) (omega arith) p in
-    let v = digit-injective (x % 16) (y % 16) (omega arith) (omega arith) q in
+    let u = digit-injective (x / 16) (y / 16) p in
+    let v = digit-injective (x % 16) (y % 16) q in
     let z : x ≡ y = omega arith in
-    let w = hex-injective a b (λ i. h (suc i)) (λ i. k (suc i)) t in
+    let w = hex-injective a b t in
     λ i. z i ∷ w i

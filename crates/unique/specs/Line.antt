@@ -113,7 +113,7 @@ frame-or-not line = ⊎-elim shaped (λ (f : Unread line). inr (λ b F. f b (F .
         (lt-or-ge 0 (length (r .0)))
       where
         same : (b : List ℕ) → Frame line b → b ≡ r .0
-        same b F = hex-injective b (r .0) (F .are-bytes) (r .1) (sym (F .digits) ∙ r .2)
+        same b F = hex-injective b (r .0) (sym (F .digits) ∙ r .2)
 
 -- a kind that there is
 pub no-kind : (k : ℕ) → (k ≡ 1 → ⊥) → (k ≡ 2 → ⊥) → (k ≡ 3 → ⊥) → (k ≡ 4 → ⊥) → (k ≡ 5 → ⊥) → (k ≡ 6 → ⊥) → frameLength k ≡ 0

@@ -2,7 +2,7 @@
 -- holds, the same for both; each clause fixes every number returned and all that is left behind; and the chosen plan has no second.
 use Prim.Native.Nat.{ℕ, _+_, _≤_, _<_}
 use mathlib.Core.Path.{_≡_, sym, ap, subst, _∙_}
-use mathlib.Core.Bool.{Bool}
+use mathlib.Core.Bool.{Bool, false}
 use mathlib.Core.List.{List}
 use lib.ListN.{length}
 use Rattle.rules.specs.declared.Row.{Row}
@@ -14,14 +14,14 @@ use Rattle.rules.specs.declared.Cancelling.{Cancelling}
 use Rattle.rules.specs.declared.Paged.{Paged}
 use Rattle.rules.specs.Limits.{rowLimit}
 use Rattle.rules.specs.Map.{GoodMap, mapYard}
-use Rattle.rules.specs.Rows.{Key, bit}
+use Rattle.rules.specs.Rows.{Key, firstKey, bit}
 use Rattle.rules.specs.Plan.{Stay, arrival, runRows}
 use Rattle.rules.specs.Book.{rowsOf}
 use Rattle.rules.specs.Chosen.{Chosen}
 use Rattle.rules.specs.Bytes.{records, written}
 use Rattle.rules.specs.Gate.{Unless, Papers, Checked}
 use Rattle.rules.specs.GateLaws.{both, checked-both}
-use Rattle.rules.specs.Answer.{Planning, PlanRefused, PlanAnswers, BookingIs, BookRefused, BookDone, BookIs, CancellingIs, CancelIs, PagingIs, PageRefused, PageAnswers, plannedNumber, plannedArrival, plannedCount, pagedNumber, pagedCount, pagedMore}
+use Rattle.rules.specs.Answer.{Planning, PlanRefused, PlanAnswers, BookingIs, BookRefused, BookDone, BookIs, CancellingIs, CancelIs, PagingIs, PageAnswers, plannedNumber, plannedArrival, plannedCount, pagedNumber, pagedCount, pagedMore}
 use Rattle.rules.specs.Portal.{slicePapers, oneNumber, PortalPlan, PortalPage}
 use Rattle.lanes.specs.Yards.{yard-rules}
 use Rattle.lanes.specs.Chosen.{no-second}
@@ -36,11 +36,11 @@ page-same {r} {r′} p q = (
 )
 
 pub no-second-page : {A : Type 0} (g : Papers) (room : ℕ) (after : List Row → List A) (size : ℕ) (k : Key) (was out out′ : List A) (r r′ : Paged)
-    → Checked g (λ n. PageRefused n was out r) (PageAnswers room after (g .yard) (g .rows) size k was out r)
-    → Checked g (λ n. PageRefused n was out′ r′) (PageAnswers room after (g .yard) (g .rows) size k was out′ r′)
+    → Checked g (λ n i. PagingIs n i false firstKey was out r) (PageAnswers room after (g .yard) (g .rows) size k was out r)
+    → Checked g (λ n i. PagingIs n i false firstKey was out′ r′) (PageAnswers room after (g .yard) (g .rows) size k was out′ r′)
     → (r ≡ r′) × (out ≡ out′)
 no-second-page g room after size k was out out′ r r′ =
-    checked-both (λ n. page-same) (λ _ _. both page-same (λ _. both page-same (λ _. both page-same (λ _. page-same))))
+    checked-both (λ n i. page-same) (λ _ _. both page-same (λ _. both page-same (λ _. both page-same (λ _. page-same))))
 
 -- ---- plan
 
@@ -53,11 +53,11 @@ plan-same {r} {r′} p q = (
 -- the map's rules give durations of at least a second
 pub no-second-plan : {A : Type 0} (g : Papers) (room : ℕ) (after : List Row → List A) (start dest s : ℕ) (was out out′ : List A) (r r′ : Planned)
     → (g .map-good → (p : ℕ) → 0 < g .yard .dur p)
-    → Checked g (λ n. PlanRefused n was out r) (PlanAnswers room after (g .yard) (g .rows) start dest s was out r)
-    → Checked g (λ n. PlanRefused n was out′ r′) (PlanAnswers room after (g .yard) (g .rows) start dest s was out′ r′)
+    → Checked g (λ n i. Planning n 0 i was out r) (PlanAnswers room after (g .yard) (g .rows) start dest s was out r)
+    → Checked g (λ n i. Planning n 0 i was out′ r′) (PlanAnswers room after (g .yard) (g .rows) start dest s was out′ r′)
     → (r ≡ r′) × (out ≡ out′)
 no-second-plan {A} g room after start dest s was out out′ r r′ long =
-    checked-both (λ n. plan-same) (λ M _. both plan-same (λ _. both plan-same (λ _. both plan-same (λ _. chosen M))))
+    checked-both (λ n i. plan-same) (λ M _. both plan-same (λ _. both plan-same (λ _. both plan-same (λ _. chosen M))))
   where
     Listed : List A → Planned → List Stay → Type 0
     Listed o x plan = Unless (length plan ≤ room) (PlanRefused 6 was o x) (Planning 0 (arrival plan) (length plan) (after (runRows 0 plan)) o x)
@@ -80,7 +80,7 @@ booking-same {r} {r′} p q =
 
 pub no-second-booking : (m : Map) (b : Book) (start dest s : ℕ) (r r′ : Booking) → BookIs m b start dest s r → BookIs m b start dest s r′ → r ≡ r′
 no-second-booking m b start dest s r r′ =
-    checked-both (λ n. booking-same) (λ M _.
+    checked-both (λ n i. booking-same) (λ M _.
     both booking-same (λ _. both booking-same (λ _. both booking-same (λ _. both booking-same (λ _. chosen M)))))
   where
     Entered : Booking → List Stay → Type 0
@@ -103,7 +103,7 @@ cancelling-same {r} {r′} p q =
     λ i. record { book = b i; answer = a i }
 
 pub no-second-cancelling : (m : Map) (b : Book) (ticket : ℕ) (r r′ : Cancelling) → CancelIs m b ticket r → CancelIs m b ticket r′ → r ≡ r′
-no-second-cancelling m b ticket r r′ = checked-both (λ n. cancelling-same) (λ _ _. both cancelling-same (λ _. cancelling-same))
+no-second-cancelling m b ticket r r′ = checked-both (λ n i. cancelling-same) (λ _ _. both cancelling-same (λ _. cancelling-same))
 
 -- ---- the portal's two
 

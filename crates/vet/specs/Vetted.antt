@@ -1,91 +1,120 @@
--- What vetting says: the map breaks a rule, or the book is not well formed on it, or both are sound and all free windows are known.
-use Prim.Native.Nat.{ℕ, _≤_, _<_}
+-- What vetting says: the map breaks a rule, or something is wrong with the book on it, or both are sound and all free windows are known.
+use Prim.Native.Nat.{ℕ, _/_, _%_, _≤_, _<_}
 use mathlib.Core.Path.{_≡_, refl, sym, ap, ap₂, subst, _∙_}
-use mathlib.Core.Logic.{⊎-elim}
-use mathlib.Core.List.{List}
+use mathlib.Core.List.{List, List·Memᴰ}
 use mathlib.Core.Bool.{Bool, true, false}
 use native.Mathlib.Omega.{arith}
 use lib.Dec.{eqb}
 use borrow.Author.Tests.{eq-eqb, ne-eqb}
-use Rattle.laws.specs.Order.{eq-or-ne}
 use Rattle.laws.specs.Tests.{not-both}
 use Rattle.rules.specs.declared.Row.{Row}
 use Rattle.rules.specs.declared.Refusal.{Refusal}
-use Rattle.rules.specs.declared.Refusal.the-variants.{BadMap, BadBook}
+use Rattle.rules.specs.declared.Refusal.the-variants.{BadMap, BadBook, KeysFall, BrokenRun, Overfull, Barred}
 use Rattle.rules.specs.Map.{Yard}
 use Rattle.rules.specs.Book.{WellFormed}
-use Rattle.rules.specs.Gate.{Papers, Checked}
+use Rattle.rules.specs.Gate.{Papers, BookGood, Checked}
 use Rattle.rules.specs.Gate.Checked.{bad-map, bad-book, sound}
-use Rattle.rules.specs.GateLaws.{checked, same-papers, checked-as}
-use Rattle.rules.specs.Answer.{number}
+use Rattle.rules.specs.Fault.{Fault}
+use Rattle.rules.specs.Fault.Fault.{miscounted, unrising, broken, overfull, barred}
+use Rattle.rules.specs.GateLaws.{at-gate, checked, same-papers, checked-as}
+use Rattle.rules.specs.Answer.{number, faultRow}
 use Rattle.flat.specs.Flat.{papersIn, rowsIn}
 use Rattle.flat.specs.Laws.{rows-long}
 use Rattle.lanes.specs.Yards.{YardRules, yard-rules}
+use Rattle.chains.specs.Test.{RowOk}
 use Rattle.chains.specs.Laws.{whole-tested}
 use Rattle.lookup.specs.Booked.{Booked}
 use Rattle.mapfit.specs.Fits.{MapFits}
-use Rattle.bookfit.specs.Answer.{BookFits}
+use Rattle.bookfit.specs.Answer.{faultCode, BookFits}
+use Rattle.bookfit.specs.Answer.BookFits.{good, faulty}
 use Rattle.search.specs.Lanes.{Lanes}
 use Rattle.vet.specs.declared.Verdict.{Verdict}
 use Rattle.vet.specs.declared.Verdict.the-variants.{Sound, Refused}
 
 -- the rows of a well-formed book are what looking crossings up by place asks for: runs are whole, so that who goes on has a row where it goes
 pub formed-booked : {Y : Yard} → YardRules Y → Y .places ≤ 256 → {rows : List Row} {t : ℕ} → WellFormed Y rows t → Booked rows
-formed-booked R few W =
-    let tested = whole-tested R (W .whole) in
-    record {
-      rising = W .rising;
-      on-map = λ r m. omega (arith, tested .each r m .on-map);
-      lasts = λ r m. omega (arith, tested .each r m .lasts, R .long (r .place));
-      goes-in = λ r m g. let s = tested .each r m .joined g in record { row = s .row; in-book = s .in-book; place = s .follows .place; entry = s .follows .entry };
-      unbarred = W .exchange;
-    }
+formed-booked {Y} R few {rows} W = record {
+  rising = W .rising;
+  on-map = λ r m. omega (arith, tested r m .on-map);
+  lasts = λ r m. omega (arith, tested r m .lasts, R .long (r .place));
+  goes-in = λ r m g. let s = tested r m .joined g in record { row = s .row; in-book = s .in-book; place = s .follows .place; entry = s .follows .entry };
+  unbarred = W .exchange;
+}
+  where
+    tested : (r : Row) → List·Memᴰ r rows → RowOk Y rows r
+    tested r m = whole-tested R (W .whole r m) .each r m refl
 
 -- ---- the verdict
 
--- the number of its refusal, 0 where there is none
+-- the number of its refusal, 0 where there is none, and the row that it names
 abbrev pub verdictNumber : Verdict → ℕ
 verdictNumber (Sound w) = 0
 verdictNumber (Refused r) = number r
+
+abbrev pub verdictRow : Verdict → ℕ
+verdictRow (Sound w) = 0
+verdictRow (Refused r) = faultRow r
 
 abbrev verdictWindows : Verdict → ℕ
 verdictWindows (Sound w) = w
 verdictWindows (Refused r) = 0
 
--- what the number that vetting returns stands for
-abbrev judgedBy : (no-map no-book : Bool) → ℕ → Verdict
-judgedBy true no-book found = Refused BadMap
-judgedBy false true found = Refused BadBook
-judgedBy false false found = Sound found
+-- one of two, by a test
+abbrev pick : Bool → Verdict → Verdict → Verdict
+pick true a b = a
+pick false a b = b
 
+-- a refusal by its number and row, and for number 0 the windows found
+abbrev verdictBy : ℕ → ℕ → ℕ → Verdict
+verdictBy n i found =
+    pick (eqb n 0) (Sound found)
+    (pick (eqb n 1) (Refused BadMap)
+    (pick (eqb n 2) (Refused BadBook)
+    (pick (eqb n 13) (Refused (KeysFall i))
+    (pick (eqb n 14) (Refused (BrokenRun i))
+    (pick (eqb n 15) (Refused (Overfull i))
+    (Refused (Barred i)))))))
+
+-- what the number that vetting returns stands for: a number of windows, or a refusal's number above its row
 abbrev pub verdictOf : ℕ → Verdict
-verdictOf found = judgedBy (eqb found 1282) (eqb found 1281) found
+verdictOf found = verdictBy (found / 2048) (found % 2048) found
 
-pub verdict-map : (found : ℕ) → found ≡ 1282 → Refused BadMap ≡ verdictOf found
-verdict-map found e = sym (ap (λ (x : Bool). judgedBy x (eqb found 1281) found) (eq-eqb found 1282 e))
+verdict-sound : (found : ℕ) → found < 2048 → Sound found ≡ verdictOf found
+verdict-sound found h = rw (eq-eqb (found / 2048) 0 (omega arith)) refl
 
-pub verdict-book : (found : ℕ) → (found ≡ 1282 → ⊥) → found ≡ 1281 → Refused BadBook ≡ verdictOf found
-verdict-book found a e = sym (ap₂ (λ (x y : Bool). judgedBy x y found) (ne-eqb found 1282 a) (eq-eqb found 1281 e))
+abbrev Told : ℕ → ℕ → ℕ → Type 0
+Told found n i = (verdictNumber (verdictOf found) ≡ n) × (verdictRow (verdictOf found) ≡ i)
 
-pub verdict-sound : (found : ℕ) → (found ≡ 1282 → ⊥) → (found ≡ 1281 → ⊥) → Sound found ≡ verdictOf found
-verdict-sound found a b = sym (ap₂ (λ (x y : Bool). judgedBy x y found) (ne-eqb found 1282 a) (ne-eqb found 1281 b))
+told : (found n i : ℕ) → found ≡ faultCode n i → i < 2048 → verdictNumber (verdictBy n i found) ≡ n → verdictRow (verdictBy n i found) ≡ i → Told found n i
+told found n i e h a b =
+    let x : found / 2048 ≡ n = omega arith in
+    let y : found % 2048 ≡ i = omega arith in
+    let q = ap₂ (λ (x y : ℕ). verdictBy x y found) x y in
+    (ap verdictNumber q ∙ a, ap verdictRow q ∙ b)
 
--- papers refused by their number, or sound with w windows, of which S w is known
+verdict-fault : {counts : Type 0} {Y : Yard} {rows : List Row} {n i : ℕ} → Fault counts Y rows n i → i < 2048 → (found : ℕ) → found ≡ faultCode n i → Told found n i
+verdict-fault (miscounted f) h found e = told found 2 0 e h refl refl
+verdict-fault {i = i} (unrising c F) h found e = told found 13 i e h refl refl
+verdict-fault {i = i} (broken c R B) h found e = told found 14 i e h refl refl
+verdict-fault {i = i} (overfull c R W F) h found e = told found 15 i e h refl refl
+verdict-fault {i = i} (barred c R W M F) h found e = told found 16 i e h refl refl
+
+-- papers refused by their number at their row, or sound with w windows, of which S w is known
 abbrev pub Vetted : Papers → (ℕ → Type 0) → Verdict → Type 0
-Vetted g S v = Checked g (λ n. verdictNumber v ≡ n) ((w : ℕ) × (v ≡ Sound w) × S w)
+Vetted g S v = Checked g (λ n i. (verdictNumber v ≡ n) × (verdictRow v ≡ i)) ((w : ℕ) × (v ≡ Sound w) × S w)
 
 -- the two answers to a caller: refused as the verdict says, whatever it refuses by, or known to be sound
-pub vetted-refused : {g : Papers} {S : ℕ → Type 0} {v : Verdict} {x : Refusal} {refused : ℕ → Type 0} {rest : Type 0} → Vetted g S v → v ≡ Refused x
-    → ((n : ℕ) → number x ≡ n → refused n) → Checked g refused rest
+pub vetted-refused : {g : Papers} {S : ℕ → Type 0} {v : Verdict} {x : Refusal} {refused : ℕ → ℕ → Type 0} {rest : Type 0} → Vetted g S v → v ≡ Refused x
+    → ((n i : ℕ) → number x ≡ n → faultRow x ≡ i → refused n i) → Checked g refused rest
 vetted-refused {g} {v = v} {rest = rest} d e f =
-    checked-as (same-papers g) (λ n _ p. f n (sym (ap verdictNumber e) ∙ p)) (λ _ _ s. none (s .0) (s .1)) d
+    checked-as (same-papers g) (λ n i _ p. f n i (sym (ap verdictNumber e) ∙ p .0) (sym (ap verdictRow e) ∙ p .1)) (λ _ _ s. none (s .0) (s .1)) d
   where
     none : (w : ℕ) → v ≡ Sound w → rest
     none w h = let z : _≡_ {A = ℕ} 0 1 = cc in absurd (omega arith)
 
-pub vetted-sound : {g : Papers} {S : ℕ → Type 0} {v : Verdict} {w : ℕ} → Vetted g S v → v ≡ Sound w → g .map-good × g .book-good × S w
+pub vetted-sound : {g : Papers} {S : ℕ → Type 0} {v : Verdict} {w : ℕ} → Vetted g S v → v ≡ Sound w → g .map-good × BookGood g × S w
 vetted-sound {S = S} d e =
-    checked (λ n h p. absurd (omega (arith, h .some, sym (ap verdictNumber e) ∙ p))) (λ M B s. (M, B, subst S (sym (ap verdictWindows (s .1)) ∙ ap verdictWindows e) (s .2))) d
+    checked (λ n i h p. absurd (omega (arith, h .some, sym (ap verdictNumber e) ∙ p .0))) (λ M B s. (M, B, subst S (sym (ap verdictWindows (s .1)) ∙ ap verdictWindows e) (s .2))) d
 
 -- ---- how it is found
 
@@ -93,30 +122,26 @@ module _ {C D F T H L : List ℕ} {n k : ℕ} {b : Bool} (M : MapFits n k C D F 
   abbrev Given : Verdict → Type 0
   Given v = Vetted (papersIn C D F T n k K X count t) (Lanes C D F T H L n k (rowsIn K X count) count P S E I) v
 
-  pub vet-map : b ≡ false → Given (verdictOf 1282)
-  vet-map e = bad-map (λ R. not-both (M .all R) e) refl
+  pub vet-map : b ≡ false → Given (verdictOf 2048)
+  vet-map e = bad-map (λ R. not-both (M .all R) e) (refl, refl)
 
   pub vet-book : b ≡ true → {r : ℕ} → BookFits C D n F T k K X count t r S E P I → Given (verdictOf r)
-  vet-book e {r} B = ⊎-elim (λ (h : r ≡ 1281). bad h) good (eq-or-ne r 1281)
-    where
-      bad : r ≡ 1281 → Given (verdictOf r)
-      bad h = subst Given (verdict-book r (λ q. omega arith) h) (bad-book (M .kept e) (B .bad h) refl)
-
-      good : (r ≡ 1281 → ⊥) → Given (verdictOf r)
-      good ne =
-          let h : r < 1281 = omega (arith, B .bound) in
-          subst Given (verdict-sound r (λ q. omega arith) ne) (
-          sound (M .kept e) (B .formed h) (
-            r,
-            refl,
-            record {
-              rules = M .kept e;
-              chained = M .chained e;
-              few-rows = omega (arith, B .formed h .few, rows-long K X count);
-              booked = formed-booked (yard-rules (M .kept e)) (M .kept e .few) (B .formed h);
-              windows = B .windows h;
-              by-place = B .by-place h;
-              few = omega arith;
-            },
-          )
-          )
+  vet-book e {r} (good h W windows by-place) =
+      subst Given (verdict-sound r (omega arith)) (
+      sound (M .kept e) W (
+        r,
+        refl,
+        record {
+          rules = M .kept e;
+          chained = M .chained e;
+          few-rows = omega (arith, W .counted .few, rows-long K X count);
+          booked = formed-booked (yard-rules (M .kept e)) (M .kept e .few) W;
+          windows = windows;
+          by-place = by-place;
+          few = omega arith;
+        },
+      )
+      )
+  vet-book e {r} (faulty number row q Z) =
+      let h = at-gate (papersIn C D F T n k K X count t) Z .row 1024 (λ c. c .few) in
+      bad-book (M .kept e) Z (verdict-fault Z (omega arith) r q)

@@ -14,20 +14,34 @@ pub enum Verdict {
     Refused(Refusal),
 }
 
-// A map that breaks a rule, where windows::NONE is a book that is not well formed.
-const NO_MAP: usize = windows::NONE + 1;
+// A map that breaks a rule.
+const NO_MAP: usize = bookfit::FAULT;
 
 // What `vet` found.
 pub fn judged(found: usize) -> Verdict
     ensures { λ v. ⌜ v ≡ verdictOf found ⌝ }
 {
-    if found == NO_MAP {
+    let number = found / bookfit::FAULT;
+    let row = found % bookfit::FAULT;
+    if number == 0 {
+        return Verdict::Sound(found);
+    }
+    if number == 1 {
         return Verdict::Refused(Refusal::BadMap);
     }
-    if found == windows::NONE {
+    if number == 2 {
         return Verdict::Refused(Refusal::BadBook);
     }
-    Verdict::Sound(found)
+    if number == 13 {
+        return Verdict::Refused(Refusal::KeysFall(row));
+    }
+    if number == 14 {
+        return Verdict::Refused(Refusal::BrokenRun(row));
+    }
+    if number == 15 {
+        return Verdict::Refused(Refusal::Overfull(row));
+    }
+    Verdict::Refused(Refusal::Barred(row))
 }
 
 // Map and book tested: a number that `judged` reads. (A verdict returned from here would take a register from the tests.)

@@ -2,7 +2,7 @@
 -- shown is one chain, and a row that stands is shown by the first page that comes past its key. The rows above the cursor grow by no more
 -- than what is booked and are fewer after each page that says more, which bounds the number of pages.
 use Prim.Native.Nat.{ℕ, zero, suc, _+_, _*_, _≤_, _<_}
-use mathlib.Core.Path.{_≡_, refl, sym, ap, subst, _∙_}
+use mathlib.Core.Path.{_≡_, refl, sym, ap, ap₂, subst, _∙_}
 use mathlib.Core.Logic.{_⊎_, ⊎-elim}
 use mathlib.Core.Bool.{true, false}
 use mathlib.Core.List.{List, [], _∷_, List·Memᴰ, List·Memᴰ·not-nil, List·Memᴰ·append-cases, Memᴰ·append-left, Memᴰ·append-right}
@@ -28,14 +28,14 @@ use Rattle.rules.specs.Book.{GoodBook, rowsOf, otherTicket}
 use Rattle.rules.specs.Bytes.{rowSize}
 use Rattle.rules.specs.ByteLaws.{read-rows}
 use Rattle.rules.specs.GateLaws.{unless, checked}
-use Rattle.rules.specs.Answer.{BookIs, BookRefused, BookDone, bookedCount, CancelIs, CancelRefused, CancelDone, PageRefused, PageDone, pagedMore, pagedCursor}
+use Rattle.rules.specs.Answer.{rowsDone, BookIs, BookingIs, BookDone, bookedRows, CancelIs, CancellingIs, CancelDone, PagingIs, PageDone, pagedMore, pagedCursor}
 use Rattle.keeping.specs.OrderLaws.{less-trans, less-lessb, lessb-less, same-lessb}
 use Rattle.keeping.specs.Chains.{Chain, chain-below, chain-take, chain-append, chain-rest, chain-rising, after-chain, keys-once}
 use Rattle.keeping.specs.Chains.Chain.{none}
 use Rattle.keeping.specs.Changes.{keep-mem, mem-keep, keep-le}
 use Rattle.keeping.specs.Runs.{run-length}
 use Rattle.keeping.specs.Keeping.{row-ranges, row-fits}
-use Rattle.keeping.specs.Books.{rows-of-book}
+use Rattle.keeping.specs.Books.{rows-of-book, book-formed}
 use Rattle.keeping.specs.Calls.{booking-good, cancelling-good}
 use Rattle.rules.specs.Walk.{Page, Others, Walk, showsOf, pages, shown, bookedBy, booked, pageAt, Stood, Walked}
 use Rattle.rules.specs.Walk.Others.{rests, plans, books, cancels, looks}
@@ -52,12 +52,12 @@ record Paging (m : Map) (b : Book) (size : ℕ) (k : Key) (list out : List ℕ) 
   is : PageDone (rowsOf b) size k list out r
 
 module _ {m : Map} {b : Book} {k : Key} (p : Page m b k) where
-  refused : {X : Type 0} (n : ℕ) → 0 < n → PageRefused n (p .list) (p .out) (p .answer) → X
+  refused : {X : Type 0} (n : ℕ) {i : ℕ} → 0 < n → PagingIs n i false firstKey (p .list) (p .out) (p .answer) → X
   refused n h x = absurd (omega (arith, x .code, p .done))
 
   paging : Paging m b (p .size) k (p .list) (p .out) (p .answer)
   paging =
-      checked (λ n h. refused n (h .some))
+      checked (λ n i h. refused n (h .some))
       (λ gm gb. unless (refused 10 (omega arith))
       (λ sized. unless (refused 11 (omega arith))
       (λ cursor. unless (refused 6 (omega arith))
@@ -71,7 +71,7 @@ module _ {m : Map} {b : Book} {k : Key} (p : Page m b k) where
   page = pageRows (p .size) k rows
 
   rising : Rising rows
-  rising = paging .good-book .formed .rising
+  rising = paging .good-book .rising
 
   mem-page : (x : Row) → List·Memᴰ x page → List·Memᴰ x (after k rows)
   mem-page x n = rw (take-append-drop (p .size) (after k rows)) at (Memᴰ·append-left (drop (p .size) (after k rows)) n)
@@ -84,7 +84,7 @@ module _ {m : Map} {b : Book} {k : Key} (p : Page m b k) where
   pub shows-page : showsOf p ≡ pageRows (p .size) k (rowsOf b)
   shows-page =
       let D = paging .is in
-      let fits = row-fits (paging .good-map .rules .few) (paging .good-book .formed) in
+      let fits = row-fits (paging .good-map .rules .few) (book-formed (paging .good-book)) in
       rw (D .counts, D .holds) (read-rows page (drop (rowSize * length page) (p .list)) (λ j h. fits (rowAt page j) (page-stood (rowAt page j) (index-mem noRow page j h))))
 
   -- and the cursor handed back is its last row's key
@@ -138,23 +138,23 @@ abbrev Grows : Key → Book → Book → ℕ → Type 0
 Grows k b c n = above k c ≤ above k b + n
 
 module _ {m : Map} (k : Key) where
-  book-grows : {b : Book} {start dest s : ℕ} {r : Booking} → BookIs m b start dest s r → Grows k b (r .book) (bookedCount (r .answer))
-  book-grows {b} {r = r} h = checked (λ n _. same) (λ M G. unless same (λ a. unless same (λ a. unless same (λ a. unless same (λ a c. unless same (λ a. done (c .0)) (c .2)))))) h
+  book-grows : {b : Book} {start dest s : ℕ} {r : Booking} → BookIs m b start dest s r → Grows k b (r .book) (bookedRows (r .answer))
+  book-grows {b} {r = r} h = checked (λ n i _. same) (λ M G. unless same (λ a. unless same (λ a. unless same (λ a. unless same (λ a c. unless same (λ a. done (c .0)) (c .2)))))) h
     where
-      same : {n : ℕ} → BookRefused n b r → Grows k b (r .book) (bookedCount (r .answer))
+      same : {n i : ℕ} → BookingIs n 0 0 i b r → Grows k b (r .book) (bookedRows (r .answer))
       same x = let e = ap (above k) (x .holds) in omega arith
 
-      done : (plan : List Stay) → BookDone plan b r → Grows k b (r .book) (bookedCount (r .answer))
+      done : (plan : List Stay) → BookDone plan b r → Grows k b (r .book) (bookedRows (r .answer))
       done plan x =
           let new = runRows (b .«next_ticket») plan in
           let e : above k (r .book) ≡ length (after k (insertAll new (rowsOf b))) =
           ap (above k) (x .holds) ∙ ap (λ (l : List Row). length (after k l)) (rows-of-book (insertAll new (rowsOf b)) (b .«next_ticket» + 1)) in
-          omega (arith, e, keep-all (λ r. lessb k (rowKey r)) new (rowsOf b), run-length (b .«next_ticket») plan, x .counts)
+          omega (arith, e, keep-all (λ r. lessb k (rowKey r)) new (rowsOf b), run-length (b .«next_ticket») plan, ap₂ rowsDone (x .code) (x .counts))
 
   cancel-grows : {b : Book} {ticket : ℕ} {r : Cancelling} → CancelIs m b ticket r → Grows k b (r .book) 0
-  cancel-grows {b} {ticket} {r} h = checked (λ n _. same) (λ M G. unless same (λ a. done)) h
+  cancel-grows {b} {ticket} {r} h = checked (λ n i _. same) (λ M G. unless same (λ a. done)) h
     where
-      same : {n : ℕ} → CancelRefused n b r → Grows k b (r .book) 0
+      same : {n i : ℕ} → CancellingIs n i b r → Grows k b (r .book) 0
       same x = let e = ap (above k) (x .holds) in omega arith
 
       done : CancelDone ticket b r → Grows k b (r .book) 0
@@ -223,8 +223,8 @@ first-below x h =
     (lt-or-ge 0 (x .place))
 
 start-below : {m : Map} {k : Key} {b : Book} (w : Walk m k b) (x : Row) → Stood x (pages w) → Less firstKey (rowKey x)
-start-below (ends p e) x s = first-below x (row-ranges (paging p .good-book .formed) x (s 0 (omega arith)) .ticket-from)
-start-below (goes p e o w) x s = first-below x (row-ranges (paging p .good-book .formed) x (s 0 (omega arith)) .ticket-from)
+start-below (ends p e) x s = first-below x (row-ranges (book-formed (paging p .good-book)) x (s 0 (omega arith)) .ticket-from)
+start-below (goes p e o w) x s = first-below x (row-ranges (book-formed (paging p .good-book)) x (s 0 (omega arith)) .ticket-from)
 
 pub walked : {m : Map} {b : Book} (w : Walk m firstKey b) → Walked w
 walked {m} {b} w = record {

@@ -13,7 +13,7 @@ use Rattle.laws.specs.Tests.{Decides}
 use Rattle.rules.specs.Limits.{placeLimit, linkLimit, rowLimit}
 use Rattle.rules.specs.Map.{Yard}
 use Rattle.rules.specs.Bytes.{num2, placeSize, placeIn, placesFrom, linkSize, linkIn, linksFrom, rowSize, rowIn, rowsFrom}
-use Rattle.rules.specs.Portal.{slicePlaces, sliceLinks, MapSlice, sliceRows, BookSlice}
+use Rattle.rules.specs.Portal.{slicePlaces, sliceLinks, MapSlice, sliceRows, CountedSlice}
 use Rattle.flat.specs.Flat.{placesIn, linksIn, rowsIn}
 use Rattle.wire.specs.Reading.{PlacesOf, LinksOf, RowsOf, places-table, links-table, rows-table}
 
@@ -78,8 +78,8 @@ book-length s n a h p = (
   λ S. eq-eqb (length s) (5 + rowSize * n) (omega arith),
 )
 
-pub book-shape : {Y : Yard} {s : List ℕ} → BookSlice Y s → BookShape s
-book-shape {Y} {s} B = record { counts = B .counts; fits = B .fits; few = omega (arith, B .formed .few, rows-count s 5 (num2 s 3)) }
+pub book-shape : {Y : Yard} {s : List ℕ} → CountedSlice Y s → BookShape s
+book-shape {Y} {s} C = record { counts = C .head; fits = C .fits; few = omega (arith, C .counts .few, rows-count s 5 (num2 s 3)) }
 
 -- the arrays read from the slice, count rows of them
 module _ {s K X : List ℕ} {count : ℕ} (R : RowsOf s count K X) (is-count : count ≡ num2 s 3) where

@@ -82,7 +82,7 @@ loop-again c =
           (λ w. (rw (w .3 .ensures .0, w .4 .ensures .0) at (w .5 .ensures (w .6 .left))) _ (R .barred))
           (⊎-elim
           (λ w. R .goes-on (last-by _ _ _ (w .1 .ensures) (w .2 .left)))
-          (λ w. not-both (e (ringed-candidate K X n (s .pre) (l .i) R .entered)) (w .left)))
+          (λ w. not-both (e (ringed-candidate K X n (s .pre) (omega arith) (l .i) R .entered)) (w .left)))
           (c .if1 .came)),
     )
 

@@ -25,7 +25,7 @@ row-at-requires : tie.Need-row-at-requires Inv-loop μ-loop
 row-at-requires c κs =
     let s = c .before .before in
     let A = s .pre .1 .0 in
-    let few = s .pre .0 .timed .keyed .few in
+    let few = s .pre .0 .keyed .few in
     (omega (arith, A .few), omega (arith, A .within (c .before .loop .c) (c .loop-test .taken)))
 
 above-all-requires : tie.Need-above-all-requires Inv-loop μ-loop
@@ -47,13 +47,13 @@ element-copy-out-place-of : tie.Need-element-copy-out-place-of Inv-loop μ-loop
 element-copy-out-place-of c = search needs
 
 place-of-requires : tie.Need-place-of-requires Inv-loop μ-loop
-place-of-requires c κs = c .before .before .before .before .before .before .before .before .pre .0 .timed .keyed .small (c .before .before .before .before .before .row-at .result) (omega (arith, c .before .before .before .before .before .row-at .ensures .0, c .before .before .before .before .before .before .before .before .pre .1 .0 .within (c .before .before .before .before .before .before .before .loop .c) (c .before .before .before .before .before .before .loop-test .taken)))
+place-of-requires c κs = c .before .before .before .before .before .before .before .before .pre .0 .keyed .small (c .before .before .before .before .before .row-at .result) (omega (arith, c .before .before .before .before .before .row-at .ensures .0, c .before .before .before .before .before .before .before .before .pre .1 .0 .within (c .before .before .before .before .before .before .before .loop .c) (c .before .before .before .before .before .before .loop-test .taken)))
 
 exit-of-requires : tie.Need-exit-of-requires Inv-loop μ-loop
 exit-of-requires c κs = search needs
 
 leads-requires : tie.Need-leads-requires Inv-loop μ-loop
-leads-requires c κs = (c .before .before .before .before .before .before .before .before .before .before .pre .0 .timed, c .exit-of .ensures .1)
+leads-requires c κs = (c .before .before .before .before .before .before .before .before .before .before .pre .0, c .exit-of .ensures .1)
 
 returns : tie.Need-returns Inv-loop μ-loop
 returns c =
@@ -90,7 +90,7 @@ returns-2 c =
     let s = c .before .before in
     let l = c .before .loop in
     let e : l .c ≡ s .args .m = omega arith in
-    (λ _. passed-unbarred _ _ _ _ _ _ _ (s .args .m) (s .pre .0) (s .pre .1 .0) (s .pre .1 .1) (rw e at (l .inv .1)), λ _. refl)
+    (λ _. passed-unbarred _ _ _ _ _ _ _ (s .args .m) (s .pre .1 .0) (s .pre .1 .1) (rw e at (l .inv .1)), λ _. refl)
 
 pub ranks-fall-spec : {M : Type 1} → statement M
 ranks-fall-spec =

@@ -18,7 +18,7 @@ enum-told : tie.Need-enum-told
 enum-told c = search needs
 
 cancel-sound-requires : tie.Need-cancel-sound-requires
-cancel-sound-requires c κs = vetted-sound (c .before .before .survey .ensures) (c .enum-told .given .1) .1 .fits
+cancel-sound-requires c κs = vetted-sound (c .before .before .survey .ensures) (c .enum-told .given .1) .1 .counted .fits
 
 returns : tie.Need-returns
 returns c = vetted-refused (c .before .before .before .survey .ensures) (c .before .v .given .1) cancel-refused

@@ -14,14 +14,14 @@ slice-aggregate-page c = sym (length-take-le _ _ (c .before .before .pre .0))
 page-requires : tie.Need-page-requires
 page-requires c κs = search needs
 
-number-requires : tie.Need-number-requires
-number-requires c κs = search needs
-
-count-requires : tie.Need-count-requires
-count-requires c κs = search needs
+of-page-requires : tie.Need-of-page-requires
+of-page-requires c κs = search needs
 
 marked-from-requires : tie.Need-marked-from-requires
 marked-from-requires c κs = search needs
+
+written-requires : tie.Need-written-requires
+written-requires c κs = search needs
 
 list-right-requires : tie.Need-list-right-requires
 list-right-requires c κs = search needs
@@ -45,9 +45,9 @@ try-page-spec =
     array-borrow-prefix-list
     slice-aggregate-page
     page-requires
-    number-requires
-    count-requires
+    of-page-requires
     marked-from-requires
+    written-requires
     list-right-requires
     says-requires
     slice-aggregate-line

@@ -14,14 +14,14 @@ slice-aggregate-plan c = sym (length-take-le _ _ (c .before .before .pre .0))
 plan-requires : tie.Need-plan-requires
 plan-requires c κs = search needs
 
-number-requires : tie.Need-number-requires
-number-requires c κs = search needs
-
-count-requires : tie.Need-count-requires
-count-requires c κs = search needs
+of-plan-requires : tie.Need-of-plan-requires
+of-plan-requires c κs = search needs
 
 marked-from-requires : tie.Need-marked-from-requires
 marked-from-requires c κs = search needs
+
+written-requires : tie.Need-written-requires
+written-requires c κs = search needs
 
 list-right-requires : tie.Need-list-right-requires
 list-right-requires c κs = search needs
@@ -45,9 +45,9 @@ try-plan-spec =
     array-borrow-prefix-list
     slice-aggregate-plan
     plan-requires
-    number-requires
-    count-requires
+    of-plan-requires
     marked-from-requires
+    written-requires
     list-right-requires
     says-requires
     slice-aggregate-line

@@ -4,7 +4,8 @@ use native.Mathlib.Omega.{arith}
 use lib.ListN.{length}
 use borrow.Author.Needs.{needs}
 use Rattle.rules.specs.Bytes.{listSize}
-use Rattle.frames.specs.Frames.{page-few, page-frame}
+use Rattle.desk.specs.Few.{page-within}
+use Rattle.frames.specs.Frames.{page-frame}
 use Rattle.frames.proofs.page_frame.Statement.{statement}
 use Rattle.frames.proofs.page_frame.Tie as tie
 
@@ -33,10 +34,10 @@ page-requires : tie.Need-page-requires
 page-requires c κs = search needs
 
 page-head-requires : tie.Need-page-head-requires
-page-head-requires c κs = omega (arith, page-few (c .before .page .ensures))
+page-head-requires c κs = omega (arith, page-within (c .before .page .ensures) .1)
 
-count-requires : tie.Need-count-requires
-count-requires c κs = search needs
+rows-requires : tie.Need-rows-requires
+rows-requires c κs = search needs
 
 slice-aggregate-put-answer : tie.Need-slice-aggregate-put-answer
 slice-aggregate-put-answer c = search needs
@@ -45,9 +46,9 @@ put-answer-requires : tie.Need-put-answer-requires
 put-answer-requires c κs =
     let p = c .before .before .before .before .before .page in
     let h = c .before .before .before .page-head .ensures in
-    let n = c .before .before .count .ensures in
+    let n = c .before .before .rows .ensures in
     let k : length (p .last .1 .1 .1 .1 .0) ≡ listSize = p .kept .1 .1 .1 .1 .0 in
-    let f = page-few (p .ensures) in
+    let f = page-within (p .ensures) .1 in
     ((h .fits, h .long), (omega arith, omega arith))
 
 same-length : tie.Need-same-length
@@ -58,9 +59,9 @@ returns c =
     let a = c .before .before .before .before .before .before .before .before .before .before .before .before .before .before .before .before .before .before .before .before .before .args in
     let p = c .before .before .before .before .before .before .before .before .page in
     let h = c .before .before .before .before .before .before .page-head in
-    let n = c .before .before .before .before .before .count in
+    let n = c .before .before .before .before .before .rows in
     let k : length (p .last .1 .1 .1 .1 .0) ≡ listSize = p .kept .1 .1 .1 .1 .0 in
-    let f = page-few (p .ensures) in
+    let f = page-within (p .ensures) .1 in
     page-frame (a .s) (a .b .now) (h .result) (p .result) (p .last .1 .1 .1 .1 .0) (n .result)
     (c .before .before .before .before .before .before .before .before .before .before .before .before .before .before .before .before .wide .ensures)
     (c .before .before .before .before .before .before .before .before .before .before .before .before .before .before .wide2 .ensures)
@@ -81,7 +82,7 @@ page-frame-spec =
     slice-aggregate-page
     page-requires
     page-head-requires
-    count-requires
+    rows-requires
     slice-aggregate-put-answer
     put-answer-requires
     same-length

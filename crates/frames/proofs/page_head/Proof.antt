@@ -2,7 +2,7 @@
 use mathlib.Core.Path.{_≡_, refl, ap}
 use native.Mathlib.Omega.{arith}
 use borrow.Author.Needs.{needs}
-use Rattle.rules.specs.Answer.{pagedCount}
+use Rattle.rules.specs.Answer.{pagedRows}
 use Rattle.frames.proofs.page_head.Statement.{statement}
 use Rattle.frames.proofs.page_head.Tie as tie
 
@@ -29,7 +29,7 @@ refused-head-requires c κs = search needs
 
 returns : tie.Need-returns
 returns c =
-    let n : pagedCount (c .before .before .before .before .before .args .p) ≡ c .before .before .before .p .given .0 .0 .count = ap pagedCount (c .before .before .before .p .given .1) in
+    let n : pagedRows (c .before .before .before .before .before .args .p) ≡ c .before .before .before .p .given .0 .0 .count = ap pagedRows (c .before .before .before .p .given .1) in
     let f = c .before .before .before .before .before .pre in
     let e : c .before .low-of .result ≡ c .before .before .before .p .given .0 .0 .count = omega (arith, c .before .low-of .ensures) in
     rw (c .before .before .before .p .given .1, e, c .bit-of .ensures) (record { is = refl; fits = omega arith; long = refl })

@@ -6,7 +6,8 @@ use lib.ListN.{length}
 use borrow.Author.Needs.{needs}
 use lib.ListN.{length-replicate}
 use Rattle.rules.specs.Bytes.{listSize}
-use Rattle.frames.specs.Frames.{plan-few, plan-frame}
+use Rattle.desk.specs.Few.{plan-within}
+use Rattle.frames.specs.Frames.{plan-frame}
 use Rattle.frames.proofs.plan_frame.Statement.{statement}
 use Rattle.frames.proofs.plan_frame.Tie as tie
 
@@ -34,8 +35,8 @@ plan-requires c κs = search needs
 plan-head-requires : tie.Need-plan-head-requires
 plan-head-requires c κs = search needs
 
-count-requires : tie.Need-count-requires
-count-requires c κs = search needs
+rows-requires : tie.Need-rows-requires
+rows-requires c κs = search needs
 
 slice-aggregate-put-answer : tie.Need-slice-aggregate-put-answer
 slice-aggregate-put-answer c = search needs
@@ -44,9 +45,10 @@ put-answer-requires : tie.Need-put-answer-requires
 put-answer-requires c κs =
     let p = c .before .before .before .before .before .plan in
     let h = c .before .before .before .plan-head .ensures in
-    let n = c .before .before .count .ensures in
+    let n = c .before .before .rows .ensures in
     let k : length (p .last .1 .1 .1 .1 .1 .0) ≡ listSize = p .kept .1 .1 .1 .1 .1 .0 in
-    let f = plan-few (p .ensures) (length-replicate {A = ℕ} listSize 0) in
+    let f = plan-within (p .ensures) in
+    let l = length-replicate {A = ℕ} listSize 0 in
     ((h .fits, h .long), (omega arith, omega arith))
 
 same-length : tie.Need-same-length
@@ -57,9 +59,10 @@ returns c =
     let a = c .before .before .before .before .before .before .before .before .before .before .before .before .before .before .before .before .before .before .before .args in
     let p = c .before .before .before .before .before .before .before .before .plan in
     let h = c .before .before .before .before .before .before .plan-head in
-    let n = c .before .before .before .before .before .count in
+    let n = c .before .before .before .before .before .rows in
     let k : length (p .last .1 .1 .1 .1 .1 .0) ≡ listSize = p .kept .1 .1 .1 .1 .1 .0 in
-    let f = plan-few (p .ensures) (length-replicate {A = ℕ} listSize 0) in
+    let f = plan-within (p .ensures) in
+    let l = length-replicate {A = ℕ} listSize 0 in
     plan-frame (a .s) (a .b .now) (h .result) (p .result) (p .last .1 .1 .1 .1 .1 .0) (n .result)
     (c .before .before .before .before .before .before .before .before .before .before .before .before .before .before .wide .ensures)
     (c .before .before .before .before .before .before .before .before .before .before .before .before .wide2 .ensures)
@@ -78,7 +81,7 @@ plan-frame-spec =
     slice-aggregate-plan
     plan-requires
     plan-head-requires
-    count-requires
+    rows-requires
     slice-aggregate-put-answer
     put-answer-requires
     same-length

@@ -32,7 +32,7 @@ page-sound-requires c κs =
     let s = v .before .before .before .before .before .before .before .before in
     let a = s .args in
     let F = vetted-sound (v .vet .ensures) (sym (j .judged .ensures) ∙ t .enum-told .given .1) .1 in
-    (omega (arith, F .few, rows-long (a .key .now) (a .tail .now) (a .count)), (rising-keys (a .key .now) (a .tail .now) (a .count) (F .rising), s .pre))
+    (omega (arith, F .counted .few, rows-long (a .key .now) (a .tail .now) (a .count)), (rising-keys (a .key .now) (a .tail .now) (a .count) (F .rising), s .pre))
 
 returns : tie.Need-returns
 returns c =

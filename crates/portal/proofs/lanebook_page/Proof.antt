@@ -4,7 +4,7 @@ use mathlib.Core.Path.{refl}
 use borrow.Author.Needs.{needs}
 use Rattle.laws.specs.Lists.{zeros}
 use Rattle.portal.specs.Read.{portal-page}
-use Rattle.portal.specs.Answers.{paged-few}
+use Rattle.desk.specs.Few.{page-few}
 use Rattle.portal.proofs.lanebook_page.Statement.{statement}
 use Rattle.portal.proofs.lanebook_page.Tie as tie
 
@@ -18,7 +18,7 @@ page-flat-requires : tie.Need-page-flat-requires
 page-flat-requires c κs = c .before .before .before .before .before .before .before .read-book .ensures .packed
 
 packed-page-requires : tie.Need-packed-page-requires
-packed-page-requires c κs = paged-few (c .before .before .page-flat .ensures)
+packed-page-requires c κs = page-few (λ C. C .few) (c .before .before .page-flat .ensures)
 
 same-length : tie.Need-same-length
 same-length c = search needs

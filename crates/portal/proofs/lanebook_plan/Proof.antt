@@ -1,5 +1,6 @@
 -- `portal::lanebook_plan` meets its contract: the arrays are the slices, or break a rule where the slices' shape does, so that one call of
--- planning over them decides all; its answer's count is at most the records of the caller's list, so that the packed number overflows nowhere.
+-- planning over them decides all; its answer's count is at most the records of the caller's list and the rows of a book together, so that the
+-- packed number overflows nowhere.
 use Prim.Native.Nat.{_<_}
 use mathlib.Core.Path.{refl}
 use native.Mathlib.Omega.{arith}
@@ -7,7 +8,7 @@ use lib.ListN.{length}
 use borrow.Author.Needs.{needs}
 use Rattle.laws.specs.Lists.{zeros}
 use Rattle.portal.specs.Read.{portal-plan}
-use Rattle.portal.specs.Answers.{planned-few}
+use Rattle.desk.specs.Few.{plan-few}
 use Rattle.portal.proofs.lanebook_plan.Statement.{statement}
 use Rattle.portal.proofs.lanebook_plan.Tie as tie
 
@@ -27,7 +28,7 @@ packed-plan-requires : tie.Need-packed-plan-requires
 packed-plan-requires c κs =
     let f = c .before .before in
     let s = f .before .before .before .before .before .before .before .before .before .before .before .before .before .before .before .before .before .before .before in
-    omega (arith, room s, planned-few (f .plan-flat .ensures))
+    omega (arith, room s, plan-few (λ C. C .few) (f .plan-flat .ensures))
 
 same-length : tie.Need-same-length
 same-length c = search needs

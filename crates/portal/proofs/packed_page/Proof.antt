@@ -1,4 +1,5 @@
--- `portal::packed_page` meets its contract: a page's count, with 2,048 added where the book has more, and a refusal is its number times 2^32.
+-- `portal::packed_page` meets its contract: a page's count, with 2,048 added where the book has more, and a refusal is its number times 2^32 with
+-- the row that it names added.
 use Prim.Native.Nat.{ℕ}
 use mathlib.Core.Path.{ap}
 use native.Mathlib.Omega.{arith}
@@ -40,6 +41,14 @@ cast-result c = search needs
 mul-result : tie.Need-mul-result
 mul-result c = search needs
 
+row-requires : tie.Need-row-requires
+row-requires c κs = search needs
+
+add-result-2 : tie.Need-add-result-2
+add-result-2 c =
+    let e = ap pagedCount (c .before .before .before .p2 .given .1) in
+    omega (arith, c .row .ensures, c .before .before .before .before .before .pre)
+
 returns-2 : tie.Need-returns-2
 returns-2 c =
     let g = c .before .before .p .given in
@@ -48,8 +57,8 @@ returns-2 c =
 
 returns-3 : tie.Need-returns-3
 returns-3 c =
-    let e = ap whole (c .before .before .p2 .given .1) in
-    omega (arith, c .number .ensures)
+    let e = ap whole (c .before .before .before .p2 .given .1) in
+    omega (arith, c .before .number .ensures, c .row .ensures)
 
 pub packed-page-spec : {M : Type 1} → statement M
 packed-page-spec =
@@ -62,5 +71,7 @@ packed-page-spec =
     number-requires
     cast-result
     mul-result
+    row-requires
+    add-result-2
     returns-2
     returns-3)

@@ -1,4 +1,5 @@
--- `portal::packed_plan` meets its contract: a plan's count is added to its arrival times 2,048, and a refusal is its number times 2^32.
+-- `portal::packed_plan` meets its contract: a plan's count is added to its arrival times 2,048, and a refusal is its number times 2^32 with
+-- the row that it names added.
 use Prim.Native.Nat.{ℕ}
 use mathlib.Core.Path.{ap}
 use native.Mathlib.Omega.{arith}
@@ -39,13 +40,21 @@ cast-result-2 c = search needs
 mul-result-2 : tie.Need-mul-result-2
 mul-result-2 c = search needs
 
+row-requires : tie.Need-row-requires
+row-requires c κs = search needs
+
+add-result-2 : tie.Need-add-result-2
+add-result-2 c =
+    let e = ap plannedCount (c .before .before .before .p2 .given .1) in
+    omega (arith, c .row .ensures, c .before .before .before .before .before .pre)
+
 returns : tie.Need-returns
 returns c = let e = ap whole (c .before .before .p .given .1) in omega arith
 
 returns-2 : tie.Need-returns-2
 returns-2 c =
-    let e = ap whole (c .before .before .p2 .given .1) in
-    omega (arith, c .number .ensures)
+    let e = ap whole (c .before .before .before .p2 .given .1) in
+    omega (arith, c .before .number .ensures, c .row .ensures)
 
 pub packed-plan-spec : {M : Type 1} → statement M
 packed-plan-spec =
@@ -59,5 +68,7 @@ packed-plan-spec =
     number-requires
     cast-result-2
     mul-result-2
+    row-requires
+    add-result-2
     returns
     returns-2)

@@ -11,8 +11,8 @@ page-into-requires c κs = search needs
 number-requires : tie.Need-number-requires
 number-requires c κs = search needs
 
-count-requires : tie.Need-count-requires
-count-requires c κs = search needs
+rows-requires : tie.Need-rows-requires
+rows-requires c κs = search needs
 
 say-requires : tie.Need-say-requires
 say-requires c κs = search needs
@@ -45,7 +45,7 @@ expect-requires-4 : tie.Need-expect-requires-4
 expect-requires-4 c κs = eq-eqb _ _ (c .before .before .before .before .before .before .number .ensures ∙ c .before .before .before .before .before .before .before .before .page-into .ensures .code (c .before .before .before .if1 .left))
 
 expect-requires-5 : tie.Need-expect-requires-5
-expect-requires-5 c κs = eq-eqb _ _ (c .before .before .before .before .before .before .count .ensures ∙ c .before .before .before .before .before .before .before .before .before .page-into .ensures .counts (c .before .before .before .before .if1 .left))
+expect-requires-5 c κs = eq-eqb _ _ (c .before .before .before .before .before .before .rows2 .ensures ∙ c .before .before .before .before .before .before .before .before .before .page-into .ensures .counts (c .before .before .before .before .if1 .left))
 
 more-requires : tie.Need-more-requires
 more-requires c κs = search needs
@@ -62,7 +62,7 @@ check-page-spec =
     (tie.spec
     page-into-requires
     number-requires
-    count-requires
+    rows-requires
     say-requires
     marked-requires
     same-rows-requires

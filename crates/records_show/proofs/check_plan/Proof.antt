@@ -11,8 +11,8 @@ plan-into-requires c κs = search needs
 number-requires : tie.Need-number-requires
 number-requires c κs = search needs
 
-count-requires : tie.Need-count-requires
-count-requires c κs = search needs
+rows-requires : tie.Need-rows-requires
+rows-requires c κs = search needs
 
 say-requires : tie.Need-say-requires
 say-requires c κs = search needs
@@ -51,7 +51,7 @@ expect-requires-5 : tie.Need-expect-requires-5
 expect-requires-5 c κs = eq-eqb _ _ (c .arrival .ensures ∙ c .before .before .before .before .before .before .before .before .before .before .plan-into .ensures .arrives (c .before .before .before .before .before .if1 .left))
 
 expect-requires-6 : tie.Need-expect-requires-6
-expect-requires-6 c κs = eq-eqb _ _ (c .before .before .before .before .before .before .before .before .count .ensures ∙ c .before .before .before .before .before .before .before .before .before .before .before .plan-into .ensures .counts (c .before .before .before .before .before .before .if1 .left))
+expect-requires-6 c κs = eq-eqb _ _ (c .before .before .before .before .before .before .before .before .rows2 .ensures ∙ c .before .before .before .before .before .before .before .before .before .before .before .plan-into .ensures .counts (c .before .before .before .before .before .before .if1 .left))
 
 returns-2 : tie.Need-returns-2
 returns-2 c = search needs
@@ -62,7 +62,7 @@ check-plan-spec =
     (tie.spec
     plan-into-requires
     number-requires
-    count-requires
+    rows-requires
     say-requires
     marked-requires
     same-rows-requires

@@ -18,7 +18,7 @@ book-fits-requires c κs =
     let P = c .before .before .before .before .before .before .before .before .before .before .pre in
     let m = c .before .before .before .before .before .before .before .map-fits .ensures in
     let e = not-false _ (c .before .before .before .before .before .before .if1 .left) in
-    (m .kept e, (m .chained e, (P .1 .1 .0, (P .1 .1 .1 .0, (P .1 .1 .1 .1, (P .1 .1 .1 .2, P .1 .1 .1 .3))))))
+    (m .kept e, (m .chained e, (P .1 .1 .0, record { len-S = P .1 .1 .1 .0; len-E = P .1 .1 .1 .1; len-P = P .1 .1 .1 .2; len-A = P .1 .1 .1 .3 })))
 
 returns-2 : tie.Need-returns-2
 returns-2 c =

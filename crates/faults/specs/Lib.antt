@@ -1,0 +1,10 @@
+pub mod Decide
+pub mod Checks
+pub mod Broken
+pub mod Counts
+pub mod Rows
+pub mod Verdict
+pub mod First
+pub mod Unrising
+pub mod Overfull
+pub mod Closing
