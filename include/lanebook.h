@@ -42,19 +42,22 @@
  *
  * THE RESULT of either call is one number: the refusal times 2^32, plus, when done, the
  * arrival (for a page: 1 where the book has more, else 0) times 2,048 plus the count of rows
- * written. The functions below take it apart.
+ * written. Where the refusal is one of 13 to 16, the number of the row at fault stands as the
+ * count; beside every other refusal there are zeros. The functions below take it apart.
  *
  * REFUSALS. A number is given exactly when its condition holds and none before it in the
- * call's order does: plan 1, 2, 3, 4, 5, 6; page 1, 2, 10, 11, 6. A refused call returns
- * zeros beside the number and leaves the answer slice as it was.
+ * call's order does: plan 1, 2, 13, 14, 15, 16, 3, 4, 5, 6; page 1, 2, 13, 14, 15, 16, 10,
+ * 11, 6. A refused call leaves the answer slice as it was.
  *
  *   no.                          plan page  given when
  *    0  LANEBOOK_DONE             x    x    done
  *    1  LANEBOOK_BAD_MAP          x    x    the map breaks a rule, or its length is not the one
  *                                           its counts give
- *    2  LANEBOOK_BAD_BOOK         x    x    the book is not well formed on this map (its runs
- *                                           overfill a place or close a ring, say), or its
- *                                           length is not the one its count gives
+ *    2  LANEBOOK_BAD_BOOK         x    x    the count of rows or the next ticket is out of its
+ *                                           range; a row's place or next is not on the map,
+ *                                           its entry or exit above 86,400, its ticket 0 or
+ *                                           not below the next ticket; or the book's length is
+ *                                           not the one its count gives
  *    3  LANEBOOK_NOT_A_PLACE      x         start or destination is not a place of the map
  *    4  LANEBOOK_OFF_DAY          x         the second is above 86,400
  *    5  LANEBOOK_NO_PLAN          x         no permitted plan exists
@@ -64,6 +67,25 @@
  *   10  LANEBOOK_BAD_PAGE_SIZE         x    page size 0 or above 64
  *   11  LANEBOOK_BAD_CURSOR            x    cursor place not on the map, entry above 86,400 or
  *                                           ticket above 999,999
+ *   13  LANEBOOK_KEYS_FALL        x    x    a row's key is not above that of the row before it
+ *   14  LANEBOOK_BROKEN_RUN       x    x    a ticket's rows are not one whole run
+ *   15  LANEBOOK_OVERFULL         x    x    a place has more wagons at some second than its
+ *                                           capacity
+ *   16  LANEBOOK_BARRED           x    x    rows that go on in the same second close a ring
+ *
+ * THE ROW AT FAULT. Rows are counted from 1 in the order in which the book stores them. The
+ * whole book is looked through for each of 13 to 16 before the next is asked: one that
+ * overfills a place at row 3 and has falling keys at row 900 is refused with 13 and row 900.
+ * The row is
+ *
+ *   of 13  the first whose key is not above that of the row before it
+ *   of 14  the first of the lowest ticket whose rows are not one whole run: stays that follow
+ *          each other along links, each exit the next one's entry, each as long as its place's
+ *          duration or longer, the last exactly as long, and no row besides
+ *   of 15  the first that overfills its place together with rows before it alone
+ *   of 16  the first that closes a ring together with rows before it alone
+ *
+ * So 13, 15 and 16 never name row 1. examples/installer.c says in words what is wrong at a row.
  *
  * BOOKING AND CANCELLING are not among the calls: both are done at the barn's desk, and an adviser holds
  * a copy of its map and book as slices. examples/adviser.c changes a book by hand to have something to
@@ -95,6 +117,10 @@ extern "C" {
 #define LANEBOOK_SHORT_ANSWER 6u
 #define LANEBOOK_BAD_PAGE_SIZE 10u
 #define LANEBOOK_BAD_CURSOR 11u
+#define LANEBOOK_KEYS_FALL 13u
+#define LANEBOOK_BROKEN_RUN 14u
+#define LANEBOOK_OVERFULL 15u
+#define LANEBOOK_BARRED 16u
 
 /* ---- limits, and lengths in bytes */
 
@@ -164,7 +190,14 @@ static inline uint32_t lanebook_refusal(uint64_t result)
 /* The rows written; 0 where refused. */
 static inline uint32_t lanebook_count(uint64_t result)
 {
-    return (uint32_t)result % 2048u;
+    return lanebook_refusal(result) == LANEBOOK_DONE ? (uint32_t)result % 2048u : 0;
+}
+
+/* The number, from 1, of the stored row at which the book is refused with 13, 14, 15 or 16; else 0. */
+static inline uint32_t lanebook_fault_row(uint64_t result)
+{
+    const uint32_t refusal = lanebook_refusal(result);
+    return refusal >= LANEBOOK_KEYS_FALL && refusal <= LANEBOOK_BARRED ? (uint32_t)result % 2048u : 0;
 }
 
 /* Of a plan: the second at which its last stay ends; 0 where refused. */
@@ -185,13 +218,17 @@ static inline const char *lanebook_refusal_text(uint32_t refusal)
     switch (refusal) {
     case LANEBOOK_DONE: return "done";
     case LANEBOOK_BAD_MAP: return "the map breaks a rule";
-    case LANEBOOK_BAD_BOOK: return "the book is not well formed on this map";
+    case LANEBOOK_BAD_BOOK: return "a count, a length or a field of the book is out of range";
     case LANEBOOK_NOT_A_PLACE: return "start or destination is not a place";
     case LANEBOOK_OFF_DAY: return "the start second is above 86,400";
     case LANEBOOK_NO_PLAN: return "no permitted plan exists";
     case LANEBOOK_SHORT_ANSWER: return "the answer slice is too short";
     case LANEBOOK_BAD_PAGE_SIZE: return "page size 0 or above 64";
     case LANEBOOK_BAD_CURSOR: return "the cursor is out of range";
+    case LANEBOOK_KEYS_FALL: return "the keys of the book's rows do not rise";
+    case LANEBOOK_BROKEN_RUN: return "a ticket's rows are not one whole run";
+    case LANEBOOK_OVERFULL: return "a place of the book is overfilled";
+    case LANEBOOK_BARRED: return "rows of the book close a ring";
     default: return "no refusal of these calls";
     }
 }
@@ -274,7 +311,7 @@ static inline lanebook_cursor lanebook_first_cursor(void)
     return first;
 }
 
-/* The cursor after a page: the key of its last row, or the cursor given where it has none. */
+/* The cursor after a page: the key of its last row, or the cursor given where it has none or is refused. */
 static inline lanebook_cursor lanebook_next_cursor(lanebook_cursor given, const uint8_t *answer, uint64_t result)
 {
     if (lanebook_count(result) > 0) {
