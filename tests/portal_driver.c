@@ -12,7 +12,8 @@
  * touched, then with each slice's first byte right behind one. The other side of a slice is
  * filled with guard bytes. The program ends with a message and status 1 where a guard byte, a
  * byte of the map or the book, or a byte of the answer past the rows written has changed, where
- * a refusal comes with other numbers, or where the two calls differ.
+ * a refusal comes with other numbers (13 to 16 name a row of the book, the others none), or where
+ * the two calls differ.
  *
  * The calls take 32-bit numbers and the lines may hold larger ones. UINT32_MAX stands in for
  * those: it too is above every range.
@@ -205,6 +206,32 @@ struct call {
     size_t answer_len;
 };
 
+#define FIRST_WITH_ROW 13u
+#define LAST_WITH_ROW 16u
+
+/* The count that a book slice gives; 0 where it is too short for one. */
+static uint32_t rows_of_book(const struct bytes *book)
+{
+    return book->len < LANEBOOK_BOOK_HEAD ? 0 : lanebook_number(book->at + 3, 2);
+}
+
+/* A refusal 13 to 16 comes with the number of a row of the book, every other one with zeros. */
+static void check_refusal(uint64_t result, const struct bytes *book)
+{
+    const uint32_t refusal = lanebook_refusal(result);
+    const uint32_t row = (uint32_t)result % 2048u;
+    const int names_row = refusal >= FIRST_WITH_ROW && refusal <= LAST_WITH_ROW;
+    if ((uint32_t)result / 2048u != 0 || (names_row ? row < 1 || row > rows_of_book(book) : row != 0)) {
+        fail("refusal %" PRIu32 " with other numbers, %" PRIu32, refusal, (uint32_t)result);
+    }
+}
+
+/* The bytes that a call writes: its rows when done, none when refused. */
+static size_t bytes_written(uint64_t result)
+{
+    return lanebook_refusal(result) == LANEBOOK_DONE ? LANEBOOK_ANSWER_BYTES(lanebook_count(result)) : 0;
+}
+
 /* Makes the call on slices at this side of their fences; the rows go to `rows`. */
 static uint64_t answer_at(const struct call *call, enum side side, uint8_t fill, uint8_t *rows)
 {
@@ -227,16 +254,16 @@ static uint64_t answer_at(const struct call *call, enum side side, uint8_t fill,
     check_copy(&map, &call->map, "map");
     check_copy(&book, &call->book, "book");
     check_guards(&answer, "answer");
-    if (lanebook_refusal(result) != LANEBOOK_DONE && (uint32_t)result != 0) {
-        fail("refusal %" PRIu32 " with other numbers, %" PRIu32, lanebook_refusal(result), (uint32_t)result);
+    if (lanebook_refusal(result) != LANEBOOK_DONE) {
+        check_refusal(result, &call->book);
     }
-    written = LANEBOOK_ANSWER_BYTES(lanebook_count(result));
+    written = bytes_written(result);
     if (written > answer.len) {
         fail("%" PRIu32 " rows in %lu bytes", lanebook_count(result), (unsigned long)answer.len);
     }
     kept = written + first_other(answer.at + written, answer.len - written, fill);
     if (kept < answer.len) {
-        fail("byte %lu of the answer changed, past the %" PRIu32 " rows written", (unsigned long)kept, lanebook_count(result));
+        fail("byte %lu of the answer changed, past the %lu bytes written", (unsigned long)kept, (unsigned long)written);
     }
     memcpy(rows, answer.at, written);
     return result;
@@ -248,7 +275,7 @@ static void answer(const struct call *call)
     uint8_t *again = some_memory(call->answer_len);
     const uint64_t result = answer_at(call, LAST_BYTE_AT_FENCE, 0xA5, rows);
     const uint64_t second = answer_at(call, FIRST_BYTE_AT_FENCE, 0x5A, again);
-    const size_t written = LANEBOOK_ANSWER_BYTES(lanebook_count(result));
+    const size_t written = bytes_written(result);
     size_t i;
     if (second != result || memcmp(rows, again, written) != 0) {
         fail("the same call answered %" PRIu64 " and then %" PRIu64 ", or other rows", result, second);

@@ -1,4 +1,4 @@
-//! The map of places and links, the book of rows, and the rules both must keep.
+//! The map of places and links with the rules it must keep, the book of rows, and where crossings lead.
 
 #![allow(dead_code)]
 
@@ -27,6 +27,10 @@ pub const NO_SUCH_TICKET: u8 = 9;
 pub const BAD_PAGE_SIZE: u8 = 10;
 pub const BAD_CURSOR: u8 = 11;
 pub const BAD_FRAME: u8 = 12;
+pub const KEYS_FALL: u8 = 13;
+pub const BROKEN_RUN: u8 = 14;
+pub const OVERFULL: u8 = 15;
+pub const BARRED: u8 = 16;
 
 /// A set of places, one bit for each.
 #[derive(Clone, Copy, Default, PartialEq)]
@@ -168,100 +172,4 @@ pub fn led_to(crossings: &[(usize, usize)], from: usize, steps: usize) -> Places
         }
     }
     led
-}
-
-/// Whether the book is well formed on a map that keeps its rules.
-pub fn well_formed(map: &Map, book: &Book) -> bool {
-    well_formed_but_for_rings(map, book) && rings_kept(book)
-}
-
-pub fn well_formed_but_for_rings(map: &Map, book: &Book) -> bool {
-    counts_kept(book) && ranges_kept(map, book) && keys_rise(book) && plans_whole(map, book) && load_kept(map, book)
-}
-
-pub fn counts_kept(book: &Book) -> bool {
-    book.rows.len() <= MOST_ROWS && 1 <= book.next_ticket && book.next_ticket <= LAST_TICKET + 1
-}
-
-pub fn ranges_kept(map: &Map, book: &Book) -> bool {
-    book.rows.iter().all(|row| {
-        map.has_place(row.place)
-            && map.has_place(row.next)
-            && row.entry <= DAY
-            && row.exit <= DAY
-            && 1 <= row.ticket
-            && row.ticket < book.next_ticket
-    })
-}
-
-pub fn keys_rise(book: &Book) -> bool {
-    book.rows.windows(2).all(|two| two[0].key() < two[1].key())
-}
-
-/// Each ticket's rows, put in the order of their entries, are one whole plan.
-pub fn plans_whole(map: &Map, book: &Book) -> bool {
-    let mut tickets: Vec<u32> = book.rows.iter().map(|row| row.ticket).collect();
-    tickets.sort();
-    tickets.dedup();
-    for ticket in tickets {
-        let mut run: Vec<Row> = book.rows.iter().filter(|row| row.ticket == ticket).copied().collect();
-        run.sort_by_key(|row| row.entry);
-        if !whole_plan(map, &run) {
-            return false;
-        }
-    }
-    true
-}
-
-fn whole_plan(map: &Map, run: &[Row]) -> bool {
-    for (i, row) in run.iter().enumerate() {
-        let least_exit = row.entry + map.duration(row.place);
-        if i + 1 < run.len() {
-            let after = &run[i + 1];
-            let goes_on = row.exit == after.entry && row.next == after.place;
-            if !goes_on || !map.has_link(row.place, after.place) || row.exit < least_exit {
-                return false;
-            }
-        } else if row.next != row.place || row.exit != least_exit || row.exit > DAY {
-            return false;
-        }
-    }
-    true
-}
-
-/// At each second each place holds at most its capacity.
-pub fn load_kept(map: &Map, book: &Book) -> bool {
-    for place in 0..map.places.len() {
-        let stays: Vec<&Row> = book.rows.iter().filter(|row| row.place == place).collect();
-        if stays.is_empty() {
-            continue;
-        }
-        let mut load = vec![0u32; DAY as usize];
-        for row in stays {
-            for second in row.entry..row.exit {
-                load[second as usize] += 1;
-            }
-        }
-        if load.iter().any(|&wagons| wagons > map.places[place].capacity) {
-            return false;
-        }
-    }
-    true
-}
-
-/// In no second do crossings lead from a place back to it: there is no ring of two or more places.
-pub fn rings_kept(book: &Book) -> bool {
-    crossings(&book.rows).values().all(|met| !closes_ring(met, MOST_PLACES))
-}
-
-/// Whether crossings of one second lead from some place back to it in at most so many steps.
-fn closes_ring(met: &[(usize, usize)], steps: usize) -> bool {
-    met.iter().any(|&(p, _)| led_to(met, p, steps).has(p))
-}
-
-/// The number of places of the book's shortest ring, if it has one.
-pub fn shortest_ring(book: &Book) -> Option<usize> {
-    let mut with_ring = crossings(&book.rows);
-    with_ring.retain(|_, met| closes_ring(met, MOST_PLACES));
-    with_ring.values().filter_map(|met| (1..=MOST_PLACES).find(|&steps| closes_ring(met, steps))).min()
 }

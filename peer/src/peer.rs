@@ -4,6 +4,7 @@
 
 mod barn;
 mod desk;
+mod faults;
 mod faulty;
 mod plan;
 
@@ -37,7 +38,7 @@ fn main() -> io::Result<()> {
     let mut out = BufWriter::new(io::stdout().lock());
     for line in desk::split(&input) {
         out.write_all(desk.answer(line).as_bytes())?;
-        if check && desk.map.keeps_rules() && !barn::well_formed(&desk.map, &desk.book) {
+        if check && desk.map.keeps_rules() && !faults::well_formed(&desk.map, &desk.book) {
             out.flush()?;
             eprintln!("the book is not well formed");
             exit(1);

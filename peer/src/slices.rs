@@ -5,10 +5,14 @@
 //! changed, counts that lie, and each number at and past its range. `limits`: as many places,
 //! links, rows and steps as there may be, and one more. `rings`: books of up to 1,000 rows with a
 //! ring of crossings in one second, and the same books with a ring that is nearly closed.
+//! `faults`: sound books, one of 1,024 rows, damaged so that the refusals 2 and 13 to 16 come with
+//! many different rows, also several faults in one book (`src/damage.rs`).
 
 mod barn;
+mod damage;
 mod desk;
 mod dice;
+mod faults;
 mod faulty;
 mod plan;
 
@@ -526,13 +530,13 @@ fn rings(dice: &mut Dice, out: &mut impl Write) -> io::Result<()> {
             let (map, ring) = ring_map(dice, long);
             let t = dice.pick(&[400, 5_000, 80_000]) + dice.below(2_000) as u32;
             let all = ring_and_near_misses(dice, &map, &ring, t);
-            if barn::well_formed_but_for_rings(&map, &book(&all[0])) && barn::well_formed(&map, &book(&all[1])) {
+            if faults::well_formed_but_for_rings(&map, &book(&all[0])) && faults::well_formed(&map, &book(&all[1])) {
                 break (map, ring, t, all);
             }
         };
         let ring_rows = all.iter().map(|rows| rows.len()).max().unwrap_or(0);
         let cases: Vec<&Vec<Row>> =
-            all.iter().enumerate().filter(|(i, rows)| *i == 0 || barn::well_formed(&map, &book(rows))).map(|(_, rows)| rows).collect();
+            all.iter().enumerate().filter(|(i, rows)| *i == 0 || faults::well_formed(&map, &book(rows))).map(|(_, rows)| rows).collect();
 
         // Other runs that are permitted beside every case; many of them also cross at second t.
         let mut beside: Vec<Row> = cases.iter().flat_map(|rows| rows.iter().copied()).collect();
@@ -598,12 +602,13 @@ fn main() -> io::Result<()> {
         "sweep" => sweep(&mut dice, &mut out)?,
         "limits" => limits(&mut dice, &mut out)?,
         "rings" => rings(&mut dice, &mut out)?,
+        "faults" => damage::faults(&mut dice, &mut out)?,
         _ => usage(),
     }
     out.flush()
 }
 
 fn usage() -> ! {
-    eprintln!("usage: slices SEED [calls|sweep|limits|rings]");
+    eprintln!("usage: slices SEED [calls|sweep|limits|rings|faults]");
     exit(2)
 }
