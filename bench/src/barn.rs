@@ -1,6 +1,6 @@
 //! The map and the book, read from slices and tested. Both are kept and filled anew, so that reading them allocates nothing.
-//! The passes over places, links and rows only note that something is odd, without a branch for each rule: which rule is
-//! broken doesn't count, as each refusal has one number.
+//! The passes over places, links and rows only note that something is odd, without a branch for each rule. Which rule a book
+//! breaks, and at which row, is looked for once it is known that it breaks one, apart from this.
 
 #![allow(dead_code)]
 
@@ -28,6 +28,10 @@ pub const NO_SUCH_TICKET: u8 = 9;
 pub const BAD_PAGE_SIZE: u8 = 10;
 pub const BAD_CURSOR: u8 = 11;
 pub const BAD_FRAME: u8 = 12;
+pub const KEYS_FALL: u8 = 13;
+pub const BROKEN_RUN: u8 = 14;
+pub const OVERFULL: u8 = 15;
+pub const BARRED: u8 = 16;
 
 /// A number, its high byte first.
 pub fn number(bytes: &[u8]) -> u32 {
@@ -122,7 +126,7 @@ impl Map {
     }
 
     /// The last bit says whether a link leads from one to the other, or they are the same.
-    fn leads(&self, from: u8, to: u8) -> u64 {
+    pub fn leads(&self, from: u8, to: u8) -> u64 {
         self.linked[from as usize][to as usize / 64] >> (to % 64)
     }
 }
@@ -159,7 +163,7 @@ impl Row {
         Row { came, ..self }
     }
 
-    fn unpacked(at: &[u8; PACKED_ROW]) -> Row {
+    pub fn unpacked(at: &[u8; PACKED_ROW]) -> Row {
         let [start @ .., _, _, _] = at;
         let [_, _, _, _, _, _, _, end @ ..] = at;
         Row { key: u64::from_be_bytes(*start) >> 8, tail: u32::from_be_bytes(*end), came: at[0], behind: UNKNOWN }
@@ -196,7 +200,7 @@ impl Row {
     }
 
     /// How much longer than it must the wagon stays, or below zero.
-    fn waited(&self, map: &Map) -> i32 {
+    pub fn waited(&self, map: &Map) -> i32 {
         self.exit() as i32 - self.entry() as i32 - map.duration(self.place()) as i32
     }
 
@@ -205,7 +209,7 @@ impl Row {
         key(self.next() as u32, self.exit(), self.ticket())
     }
 
-    fn under(&self, ticket: u32) -> Row {
+    pub fn under(&self, ticket: u32) -> Row {
         Row { key: self.key & !0xFF_FFFF | ticket as u64, ..*self }
     }
 }

@@ -5,24 +5,31 @@
 //!                                                   its head that says what was measured where and when
 //!     bench repeat SCENARIO ROUNDS                  the portal alone on one scenario, for a profile
 //!     bench frames COUNT                            prints mixed frames
+//!     bench literal SMALL LARGE                     the peer's refusals beside a slow and literal check, on so many small books
+//!                                                   and so many damaged ones of each scenario
 //!
 //! With `DIFFERING` in the environment answers that differ are counted and don't end the program.
 
 mod barn;
+mod broken;
 mod calls;
 mod clock;
+mod damage;
 mod desk;
 #[path = "../../peer/src/dice.rs"]
 mod dice;
+mod fault;
+mod literal;
 mod plan;
 mod rings;
 mod scenes;
 mod traffic;
 
-use barn::{number, push, Row, DAY, PACKED_ROW};
+use barn::{BAD_MAP, PACKED_ROW};
+use broken::Broken;
 use dice::Dice;
-use rings::Closing;
-use scenes::{Call, Scene, OPEN};
+use scenes::{Call, Scene};
+use std::collections::BTreeMap;
 use std::fs::File;
 use std::hint::black_box;
 use std::io::{self, Write};
@@ -31,7 +38,11 @@ use std::process::{exit, Command, Stdio};
 const SEED: u64 = 2_026;
 const LIST: usize = 1_280 * PACKED_ROW;
 /// So many damaged slices a scenario.
-const DAMAGED: usize = 400;
+const DAMAGED: usize = 800;
+/// So many small books.
+const SMALL: usize = 4_000;
+/// A broken book is to be refused within so many times the time of a sound one.
+const MOST_BY_SOUND: f64 = 12.0;
 const ROUNDS: usize = 201;
 const PROGRAM_ROUNDS: usize = 5;
 /// A turn of one side takes about so many nanoseconds, so that few turns are cut in two.
@@ -95,142 +106,165 @@ fn peer(map: &[u8], book: &[u8], call: Call, answer: &mut [u8]) -> u64 {
     }
 }
 
-/// The result on which two sides agree, or what they say where they differ in the result or in a byte of the list.
-fn agreed(sides: [Side; 2], map: &[u8], book: &[u8], call: Call, length: usize) -> Result<u64, String> {
-    let mut ours = vec![0xA5u8; LIST];
-    let mut theirs = ours.clone();
-    let one = sides[0](map, book, call, &mut ours[..length]);
-    let other = sides[1](map, book, call, &mut theirs[..length]);
-    if one != other || ours != theirs {
-        return Err(format!("with a list of {} bytes: library {:#x}, peer {:#x}", length, one, other));
-    }
-    Ok(one)
+/// What a side and the peer say where they differ.
+struct Difference {
+    /// The refusal numbers of both.
+    numbers: [u64; 2],
+    text: String,
 }
 
-/// Where a side and the peer differ, on any call and with lists long and short: a line for each such call.
-fn disagreements(side: Side, scene: &Scene) -> Vec<String> {
+/// The peer's result, and what both say where a side differs from it in the result or in a byte of the list.
+fn compared(side: Side, map: &[u8], book: &[u8], call: Call, length: usize) -> (u64, Option<Difference>) {
+    let mut ours = vec![0xA5u8; LIST];
+    let mut theirs = ours.clone();
+    let one = side(map, book, call, &mut ours[..length]);
+    let other = peer(map, book, call, &mut theirs[..length]);
+    let differ = one != other || ours != theirs;
+    let text = || format!("with a list of {} bytes: library {:#x}, peer {:#x}", length, one, other);
+    (other, differ.then(|| Difference { numbers: [one >> 32, other >> 32], text: text() }))
+}
+
+/// Where a side and the peer differ, on any call and with lists long and short: each such call.
+fn disagreements(side: Side, scene: &Scene) -> Vec<Difference> {
     let differs = |(i, &call): (usize, &Call)| {
         [LIST, 5 * PACKED_ROW + 3, 0].iter().find_map(|&length| {
-            let what = agreed([side, peer], &scene.map, &scene.book, call, length).err()?;
-            Some(format!("{}: call {} {}", scene.name, i, what))
+            let Difference { numbers, text } = compared(side, &scene.map, &scene.book, call, length).1?;
+            Some(Difference { numbers, text: format!("{}: call {} {}", scene.name, i, text) })
         })
     };
     scene.calls.iter().enumerate().filter_map(differs).collect()
 }
 
-/// Changes a byte or two, or cuts the slice short.
-fn damage(dice: &mut Dice, bytes: &mut Vec<u8>) {
-    for _ in 0..dice.among(1, 2) {
-        let at = dice.below(bytes.len());
-        bytes[at] = if dice.chance(50) { bytes[at] ^ 1 << dice.below(8) } else { dice.below(256) as u8 };
-    }
-    if dice.chance(5) {
-        bytes.truncate(dice.below(bytes.len()));
-    }
+/// How many answers came by each number.
+type Counts = [usize; 17];
+
+/// What came of slices on which the portal and the peer were compared.
+struct Compared {
+    counts: Counts,
+    /// Where they differ.
+    wrong: Vec<Difference>,
 }
 
-/// Moves a run to later: it may still be in order, go against another, make a place overfull or leave the day.
-fn shift_run(dice: &mut Dice, book: &mut [u8]) {
-    let (rows, _) = book[5..].as_chunks_mut::<PACKED_ROW>();
-    if rows.is_empty() {
-        return;
+impl Compared {
+    fn new() -> Compared {
+        Compared { counts: [0; 17], wrong: Vec::new() }
     }
-    let ticket = number(&dice.pick(rows)[4..7]);
-    let most = dice.pick(&[60, 60, DAY as usize]);
-    let seconds = dice.among(1, most) as u32;
-    for row in rows.iter_mut().filter(|row| number(&row[4..7]) == ticket) {
-        for at in [1, 7] {
-            let shifted = number(&row[at..at + 3]) + seconds;
-            row[at..at + 3].copy_from_slice(&shifted.to_be_bytes()[1..]);
+
+    fn compare(&mut self, name: &str, i: usize, map: &[u8], book: &[u8], call: Call) {
+        let (result, what) = compared(portal, map, book, call, LIST);
+        self.counts[(result >> 32) as usize] += 1;
+        if let Some(Difference { numbers, text }) = what {
+            self.wrong.push(Difference { numbers, text: format!("{}: slices {} {}", name, i, text) });
         }
     }
-    rows.sort_unstable();
 }
 
-/// Lets a crossing close a ring: moves a run to another time that makes it at some second, or else adds a wagon that does.
-fn close_ring(dice: &mut Dice, scene: &Scene, book: &mut Vec<u8>) {
-    let Closing { from, to, second } = dice.pick(&scene.closing);
-    let mut rows = book[5..].as_chunks::<PACKED_ROW>().0.to_vec();
-    let crosses = |row: &&[u8; PACKED_ROW]| (row[0], row[10]) == (from, to) && number(&row[1..4]) >= OPEN;
-    let runs: Vec<_> = rows.iter().filter(crosses).map(|row| (number(&row[4..7]), number(&row[7..10]))).collect();
-    if runs.is_empty() || dice.chance(50) {
-        let next_ticket = number(&book[..3]);
-        let stay = |place: u8| number(&scene.map[4 + 3 * place as usize..][1..3]);
-        rows.push(Row::new(from, second - stay(from), next_ticket, second, to).packed());
-        rows.push(Row::new(to, second, next_ticket, second + stay(to), to).packed());
-        book[..3].copy_from_slice(&(next_ticket + 1).to_be_bytes()[1..]);
-    } else {
-        let (ticket, crossed) = dice.pick(&runs);
-        for row in rows.iter_mut().filter(|row| number(&row[4..7]) == ticket) {
-            for at in [1, 7] {
-                let moved = (number(&row[at..at + 3]) + second).saturating_sub(crossed);
-                row[at..at + 3].copy_from_slice(&moved.to_be_bytes()[1..]);
-            }
-        }
-    }
-    rows.sort_unstable();
-    book.truncate(3);
-    push(book, rows.len() as u32, 2);
-    book.extend(rows.as_flattened());
-}
-
-/// What came of the damaged slices of a scenario.
-struct Damaged {
-    /// So many were refused for the map or the book.
-    refused: usize,
-    /// So many had a ring closed.
-    rings: usize,
-    /// A line for each on which the two sides differ.
-    wrong: Vec<String>,
-}
-
-fn damaged(scene: &Scene) -> Damaged {
+fn damaged(scene: &Scene) -> Compared {
     let mut dice = Dice::new(SEED);
-    let mut got = Damaged { refused: 0, rings: 0, wrong: Vec::new() };
+    let mut got = Compared::new();
     for i in 0..DAMAGED {
-        let (mut map, mut book) = (scene.map.clone(), scene.book.clone());
-        match dice.below(4) {
-            0 => damage(&mut dice, &mut map),
-            1 => damage(&mut dice, &mut book),
-            2 if !scene.closing.is_empty() => {
-                close_ring(&mut dice, scene, &mut book);
-                got.rings += 1;
-            }
-            _ => shift_run(&mut dice, &mut book),
-        }
-        match agreed([portal, peer], &map, &book, dice.pick(&scene.calls), LIST) {
-            Ok(result) => got.refused += [1, 2].contains(&(result >> 32)) as usize,
-            Err(what) => got.wrong.push(format!("{}: damaged slices {} {}", scene.name, i, what)),
+        let (map, book) = damage::damaged(&mut dice, scene);
+        got.compare(&scene.name, i, &map, &book, dice.pick(&scene.calls));
+    }
+    got
+}
+
+/// A plan and a page of each of the small books.
+fn small() -> Compared {
+    let mut dice = Dice::new(SEED);
+    let mut got = Compared::new();
+    for i in 0..SMALL {
+        let (map, book) = damage::small(&mut dice);
+        for call in [Call::Page { size: 8, place: 0, entry: 0, ticket: 0 }, Call::Plan { start: 0, destination: 1, second: 0 }] {
+            got.compare("small books", i, &map, &book, call);
         }
     }
     got
 }
 
+/// How often each number came, in words.
+fn counted(counts: &Counts) -> String {
+    let came = counts.iter().enumerate().filter(|(_, count)| **count > 0);
+    came.map(|(number, count)| format!("{} by {}", count, number)).collect::<Vec<_>>().join(", ")
+}
+
 /// Compares all answers. With `DIFFERING` set, for a library of other rules, those that differ are only counted.
-fn check(scenes: &[Scene]) {
-    let calls: usize = scenes.iter().map(|scene| scene.calls.len()).sum();
-    let (mut refused, mut rings, mut wrong) = (0, 0, 0);
-    for scene in scenes {
-        let on_calls = disagreements(portal, scene);
-        let got = damaged(scene);
-        refused += got.refused;
-        rings += got.rings;
-        wrong += on_calls.len() + got.wrong.len();
+fn check(scenes: &[Scene], broken: &[Broken]) {
+    let mut all = Compared::new();
+    let mut tell = |name: &str, on_calls: Vec<Difference>, got: Compared| {
         if let Some(first) = on_calls.first().or(got.wrong.first()) {
-            println!("{}", first);
-            println!("{}: {} calls and {} on damaged slices differ", scene.name, on_calls.len(), got.wrong.len());
+            println!("{}", first.text);
+            println!("{}: {} calls and {} on damaged slices differ", name, on_calls.len(), got.wrong.len());
         }
+        all.counts.iter_mut().zip(got.counts).for_each(|(sum, count)| *sum += count);
+        all.wrong.extend(on_calls.into_iter().chain(got.wrong));
+    };
+    for scene in scenes {
+        tell(&scene.name, disagreements(portal, scene), damaged(scene));
     }
-    if wrong > 0 && std::env::var_os("DIFFERING").is_none() {
+    let pages: Vec<&Scene> = broken.iter().flat_map(|broken| [&broken.scene, &broken.sound]).collect();
+    for scene in &pages {
+        tell(&scene.name, disagreements(portal, scene), Compared::new());
+    }
+    tell("small books", Vec::new(), small());
+    let mut pairs = BTreeMap::new();
+    all.wrong.iter().for_each(|what| *pairs.entry(what.numbers).or_insert(0) += 1);
+    for ([ours, theirs], count) in &pairs {
+        println!("library {} and peer {}: {} times", ours, theirs, count);
+    }
+    if !all.wrong.is_empty() && std::env::var_os("DIFFERING").is_none() {
         exit(1);
     }
-    let all = if wrong > 0 { format!("all answers but {} agree", wrong) } else { "all answers agree".to_string() };
-    println!("{} scenarios, {} calls; {} calls on damaged slices, {} refused for them, {} with a ring closed: {}",
-        scenes.len(), calls, scenes.len() * DAMAGED, refused, rings, all);
+    let both: Vec<&Scene> = scenes.iter().chain(pages).collect();
+    let calls: usize = both.iter().map(|scene| scene.calls.len()).sum();
+    let agree = match all.wrong.len() {
+        0 => "all answers agree".to_string(),
+        wrong => format!("all answers but {} agree", wrong),
+    };
+    println!("{} scenarios and {} broken books beside sound ones, {} calls; {} calls on damaged slices and {} on small books, \
+        answered {}: {}", scenes.len(), broken.len(), calls, scenes.len() * DAMAGED, 2 * SMALL, counted(&all.counts), agree);
     if let Some(before) = BEFORE {
-        let differing: usize = scenes.iter().map(|scene| disagreements(before, scene).len()).sum();
+        let differing: usize = both.iter().map(|scene| disagreements(before, scene).len()).sum();
         println!("the library before: {} calls of {} are answered in another way", differing, calls);
     }
+}
+
+/// Compares the peer's refusals with those of the literal check, by both calls.
+fn check_literally(small: usize, large: usize) {
+    let mut counts = [0; 17];
+    let mut compare = |name: &str, map: &[u8], book: &[u8]| {
+        let page = calls::page(map, book, 0, 0, 0, 0, &mut []);
+        let plan = calls::plan(map, book, u32::MAX, 0, 0, &mut []);
+        if page >> 32 == BAD_MAP as u64 {
+            return;
+        }
+        let want = literal::fault(map, book);
+        let [paged, planned] = want.map_or([10 << 32, 3 << 32], |(number, row)| [number << 32 | row; 2]);
+        if page != paged || plan != planned {
+            println!("{}: literally {:?}, page {:#x}, plan {:#x}", name, want, page, plan);
+            std::fs::write("bench/target/differing.map", map).expect("the map is written");
+            std::fs::write("bench/target/differing.book", book).expect("the book is written");
+            exit(1);
+        }
+        counts[want.map_or(0, |(number, _)| number as usize)] += 1;
+    };
+    let mut dice = Dice::new(SEED);
+    for _ in 0..small {
+        let (map, book) = damage::small(&mut dice);
+        compare("small books", &map, &book);
+    }
+    let scenes = scenes::all(SEED);
+    for scene in &scenes {
+        for _ in 0..large {
+            let (map, book) = damage::damaged(&mut dice, scene);
+            compare(&scene.name, &map, &book);
+        }
+    }
+    for Broken { scene, sound, .. } in broken::all(&scenes) {
+        compare(&scene.name, &scene.map, &scene.book);
+        compare(&sound.name, &sound.map, &sound.book);
+    }
+    println!("the peer and the literal check agree: {}", counted(&counts));
 }
 
 /// Nanoseconds a call, over `repeat` rounds of the scene's calls.
@@ -262,19 +296,19 @@ fn spread(figures: &[Figure]) -> f64 {
     figures.iter().map(|figure| figure.spread * 100.0).fold(0.0, f64::max)
 }
 
-/// Times all sides in alternation.
-fn timed(scene: &Scene, sides: &[Side]) -> Vec<Figure> {
+/// Times sides, each on a scene, in alternation.
+fn timed(sides: &[(Side, &Scene)]) -> Vec<Figure> {
     let mut answer = vec![0u8; LIST];
     let repeats: Vec<usize> = sides
         .iter()
-        .map(|&side| {
+        .map(|&(side, scene)| {
             let once = turn(side, scene, 1, &mut answer).min(turn(side, scene, 1, &mut answer));
             ((TURN / once) as usize / scene.calls.len()).max(1)
         })
         .collect();
     let mut times = vec![Vec::new(); sides.len()];
     for _ in 0..ROUNDS {
-        for (at, &side) in sides.iter().enumerate() {
+        for (at, &(side, scene)) in sides.iter().enumerate() {
             times[at].push(turn(side, scene, repeats[at], &mut answer));
         }
     }
@@ -293,10 +327,10 @@ fn table(scenes: &[Scene], report: &mut String) {
     let (names, rule) = if BEFORE.is_some() { (" Before, µs | By before |", "--:|--:|") } else { ("", "") };
     say(report, format!("| Scenario | Places | Links | Rows | Portal, µs | Peer, µs | Ratio |{} Spread |", names));
     say(report, format!("|---|--:|--:|--:|--:|--:|--:|{}--:|", rule));
-    let mut sides: Vec<Side> = vec![portal, peer];
-    sides.extend(BEFORE);
     for scene in scenes {
-        let got = timed(scene, &sides);
+        let mut sides: Vec<(Side, &Scene)> = vec![(portal, scene), (peer, scene)];
+        sides.extend(BEFORE.map(|before| (before, scene)));
+        let got = timed(&sides);
         let (ours, peer) = (got[0].median / 1e3, got[1].median / 1e3);
         let size = format!("{} | {} | {}", scene.places, scene.links, scene.rows);
         let mut times = format!("{:.2} | {:.2} | {:.2}", ours, peer, ours / peer);
@@ -306,6 +340,28 @@ fn table(scenes: &[Scene], report: &mut String) {
         }
         say(report, format!("| {} | {} | {} | {:.0} % |", scene.name, size, times, spread(&got)));
     }
+}
+
+/// Broken books, each beside the sound one that it was made from.
+fn broken_table(broken: &[Broken], report: &mut String) {
+    let (names, rule) = if BEFORE.is_some() { (" Before, µs | By before |", "--:|--:|") } else { ("", "") };
+    say(report, format!("| Broken book | Number | Row | Portal, µs | Sound, µs | By sound | Peer, µs |{} Spread |", names));
+    say(report, format!("|---|--:|--:|--:|--:|--:|--:|{}--:|", rule));
+    let mut most: f64 = 0.0;
+    for Broken { scene, sound, number, row } in broken {
+        let mut sides: Vec<(Side, &Scene)> = vec![(portal, scene), (portal, sound), (peer, scene)];
+        sides.extend(BEFORE.map(|before| (before, scene)));
+        let got = timed(&sides);
+        let (ours, sound, peer) = (got[0].median / 1e3, got[1].median / 1e3, got[2].median / 1e3);
+        most = most.max(ours / sound);
+        let mut times = format!("{:.2} | {:.2} | {:.2} | {:.2}", ours, sound, ours / sound, peer);
+        if let Some(before) = got.get(3) {
+            let before = before.median / 1e3;
+            times.push_str(&format!(" | {:.2} | {:.2}", before, ours / before));
+        }
+        say(report, format!("| {} | {} | {} | {} | {:.0} % |", scene.name, number, row, times, spread(&got)));
+    }
+    say(report, format!("\nThe dearest takes {:.2} times as long as a sound book; the limit is {}.", most, MOST_BY_SOUND));
 }
 
 /// What a program prints on a file of frames, and the processor time it took.
@@ -358,12 +414,21 @@ Where the linker puts the library's code counts too: the same library was up to 
 48. Compare only figures of one placement.
 ";
 
+const BROKEN_HEAD: &str = "
+## Broken books
+
+Pages of 64 of broken books of 1,000 rows, each refused with the number and row given. Sound is the same page of the same book
+before it was broken, and by sound is portal by that. Late and early say where in the book the fault lies.
+";
+
 const FRAMES_HEAD: &str = "
+## Frames
+
 The program `lanebook` beside the peer's own frame program on one file, processor time with that of the system. The peer as
 it is tests neither map nor book again once it has them.
 ";
 
-fn time(report: &str, run: &str, scenes: &[Scene], programs: &[&str]) {
+fn time(report: &str, run: &str, scenes: &[Scene], broken: &[Broken], programs: &[&str]) {
     let mut text = String::from(HEAD);
     text.push('\n');
     say(&mut text, format!("{}\n", run));
@@ -371,6 +436,10 @@ fn time(report: &str, run: &str, scenes: &[Scene], programs: &[&str]) {
     #[cfg(before)]
     say(&mut text, format!("Before is the library before, whose planning begins at {} mod 64.\n", before_plan as *const () as usize % 64));
     table(scenes, &mut text);
+    text.push_str(BROKEN_HEAD);
+    text.push('\n');
+    println!();
+    broken_table(broken, &mut text);
     if let &[lanebook, peer, frames] = programs {
         text.push_str(FRAMES_HEAD);
         text.push('\n');
@@ -386,25 +455,31 @@ fn main() -> io::Result<()> {
     match words[..] {
         ["check", ref programs @ ..] | ["time", _, _, ref programs @ ..] if [0, 3].contains(&programs.len()) => {
             let scenes = scenes::all(SEED);
-            check(&scenes);
+            let broken = broken::all(&scenes);
+            check(&scenes, &broken);
             if let &[lanebook, peer, frames] = programs {
                 check_frames(lanebook, peer, frames);
             }
             if words[0] == "time" {
-                time(words[1], words[2], &scenes, programs);
+                time(words[1], words[2], &scenes, &broken, programs);
             }
         }
         ["repeat", name, rounds] => {
             let scenes = scenes::all(SEED);
-            let scene = scenes.iter().find(|scene| scene.name.starts_with(name)).expect("a scenario's name");
+            let broken = broken::all(&scenes);
+            let mut both = scenes.iter().chain(broken.iter().map(|broken| &broken.scene));
+            let scene = both.find(|scene| scene.name.starts_with(name)).expect("a scenario's name");
             turn(portal, scene, rounds.parse().expect("a number of rounds"), &mut [0u8; LIST]);
         }
         ["frames", count] => {
             let frames = traffic::frames(SEED, count.parse().expect("a number of frames"));
             io::stdout().lock().write_all(&frames)?;
         }
+        ["literal", small, large] => {
+            check_literally(small.parse().expect("a number of books"), large.parse().expect("a number of books"));
+        }
         _ => {
-            eprintln!("usage: bench check | time REPORT RUN | repeat SCENARIO ROUNDS | frames COUNT");
+            eprintln!("usage: bench check | time REPORT RUN | repeat SCENARIO ROUNDS | frames COUNT | literal SMALL LARGE");
             exit(2);
         }
     }

@@ -2,6 +2,7 @@
 //! keeps its room from call to call.
 
 use crate::barn::*;
+use crate::fault;
 use crate::plan::{load_kept, Search};
 use std::cell::RefCell;
 
@@ -15,8 +16,11 @@ thread_local! {
     static ROOM: RefCell<Room> = const { RefCell::new(Room { map: Map::new(), book: Book::new(), search: Search::new() }) };
 }
 
-fn refused(number: u8) -> u64 {
-    (number as u64) << 32
+/// A refusal's number and row.
+type Refusal = (u8, usize);
+
+fn refused((number, row): Refusal) -> u64 {
+    (number as u64) << 32 | row as u64
 }
 
 fn done(value: u32, count: usize) -> u64 {
@@ -34,24 +38,24 @@ pub fn page(map: &[u8], book: &[u8], size: u32, place: u32, entry: u32, ticket: 
 impl Room {
     fn plan(
         &mut self, map_slice: &[u8], book_slice: &[u8], start: u32, destination: u32, second: u32, answer: &mut [u8],
-    ) -> Result<u64, u8> {
+    ) -> Result<u64, Refusal> {
         let Room { map, book, search } = self;
         if !map.read_slice(map_slice) {
-            return Err(BAD_MAP);
+            return Err((BAD_MAP, 0));
         }
         if !book.read_slice(map, book_slice) || !search.prepare(map, book, second.min(DAY)) {
-            return Err(BAD_BOOK);
+            return Err(fault::found(map, book_slice));
         }
         if start as usize >= map.size() || destination as usize >= map.size() {
-            return Err(NOT_A_PLACE);
+            return Err((NOT_A_PLACE, 0));
         }
         if second > DAY {
-            return Err(LATE_SECOND);
+            return Err((LATE_SECOND, 0));
         }
-        let rows = search.chosen(map, book, start as u8, destination as u8, second).ok_or(NO_PLAN)?;
+        let rows = search.chosen(map, book, start as u8, destination as u8, second).ok_or((NO_PLAN, 0))?;
         let (answer, _) = answer.as_chunks_mut::<PACKED_ROW>();
         if answer.len() < rows.len() {
-            return Err(SHORT_LIST);
+            return Err((SHORT_LIST, 0));
         }
         for (row, at) in rows.iter().zip(answer) {
             *at = row.packed();
@@ -61,23 +65,23 @@ impl Room {
 
     fn page(
         &mut self, map_slice: &[u8], book_slice: &[u8], size: u32, place: u32, entry: u32, ticket: u32, answer: &mut [u8],
-    ) -> Result<u64, u8> {
+    ) -> Result<u64, Refusal> {
         let Room { map, book, .. } = self;
         if !map.read_slice(map_slice) {
-            return Err(BAD_MAP);
+            return Err((BAD_MAP, 0));
         }
         if !book.read_slice(map, book_slice) || !load_kept(map, book) {
-            return Err(BAD_BOOK);
+            return Err(fault::found(map, book_slice));
         }
         let size = size as usize;
         if size == 0 || size > MOST_ON_PAGE {
-            return Err(BAD_PAGE_SIZE);
+            return Err((BAD_PAGE_SIZE, 0));
         }
         if place as usize >= map.size() || entry > DAY || ticket >= MOST_TICKETS {
-            return Err(BAD_CURSOR);
+            return Err((BAD_CURSOR, 0));
         }
         if answer.len() / PACKED_ROW < size {
-            return Err(SHORT_LIST);
+            return Err((SHORT_LIST, 0));
         }
         let from = book.after(key(place, entry, ticket));
         let left = book.rows.len() - from;

@@ -13,6 +13,7 @@ pub enum Call {
     Page { size: u32, place: u32, entry: u32, ticket: u32 },
 }
 
+#[derive(Clone)]
 pub struct Scene {
     pub name: String,
     pub places: usize,
@@ -65,12 +66,12 @@ pub struct Plot {
 }
 
 impl Plot {
-    fn place(&mut self, capacity: u32, duration: u32) {
+    pub fn place(&mut self, capacity: u32, duration: u32) {
         push(&mut self.places, capacity, 1);
         push(&mut self.places, duration, 2);
     }
 
-    fn link(&mut self, from: usize, to: usize) {
+    pub fn link(&mut self, from: usize, to: usize) {
         let link = (from as u8, to as u8);
         if from != to && !self.links.contains(&link) {
             self.links.push(link);
@@ -227,9 +228,19 @@ impl Plot {
     fn packed_links(&self) -> Vec<u8> {
         self.links.iter().flat_map(|&(from, to)| [from, to]).collect()
     }
+
+    /// The slice of the map.
+    pub fn packed(&self) -> Vec<u8> {
+        let mut map = Vec::new();
+        push(&mut map, self.places.len() as u32 / 3, 2);
+        push(&mut map, self.links.len() as u32, 2);
+        map.extend_from_slice(&self.places);
+        map.extend_from_slice(&self.packed_links());
+        map
+    }
 }
 
-fn shuffled(dice: &mut Dice, numbers: std::ops::Range<u32>) -> Vec<u32> {
+pub fn shuffled(dice: &mut Dice, numbers: std::ops::Range<u32>) -> Vec<u32> {
     let mut numbers: Vec<u32> = numbers.collect();
     for at in (1..numbers.len()).rev() {
         numbers.swap(at, dice.below(at + 1));
@@ -313,17 +324,8 @@ impl Yard {
 
     fn scene(&self, name: &str, calls: Vec<Call>) -> Scene {
         let (places, links, rows) = (self.map.size(), self.plot.links.len(), self.book.rows.len());
-        let mut map = Vec::new();
-        push(&mut map, places as u32, 2);
-        push(&mut map, links as u32, 2);
-        map.extend_from_slice(&self.plot.places);
-        map.extend_from_slice(&self.plot.packed_links());
-        let mut book = Vec::new();
-        push(&mut book, self.next_ticket, 3);
-        push(&mut book, rows as u32, 2);
-        for row in &self.book.rows {
-            book.extend_from_slice(&row.packed());
-        }
+        let map = self.plot.packed();
+        let book = packed(self.next_ticket, &self.book.rows.iter().map(Row::packed).collect::<Vec<_>>());
         let closing = closing(&self.map, &self.plot.links, &self.book.rows);
         Scene { name: name.to_string(), places, links, rows, map, book, calls, closing }
     }
@@ -451,16 +453,29 @@ impl Yard {
         self.request(None, None)
     }
 
-    /// Pages of the largest size from cursors all over the book.
     fn pages(&mut self) -> Vec<Call> {
-        let size = MOST_ON_PAGE as u32;
-        let mut calls = vec![Call::Page { size, place: 0, entry: 0, ticket: 0 }];
-        while calls.len() < CALLS {
-            let row = self.book.rows[self.dice.below(self.book.rows.len() - MOST_ON_PAGE)];
-            calls.push(Call::Page { size, place: row.place() as u32, entry: row.entry(), ticket: row.ticket() });
-        }
-        calls
+        pages(&mut self.dice, &self.book.rows)
     }
+}
+
+/// Pages of the largest size from cursors all over the book.
+pub fn pages(dice: &mut Dice, rows: &[Row]) -> Vec<Call> {
+    let size = MOST_ON_PAGE as u32;
+    let mut calls = vec![Call::Page { size, place: 0, entry: 0, ticket: 0 }];
+    while calls.len() < CALLS {
+        let row = rows[dice.below(rows.len() - MOST_ON_PAGE)];
+        calls.push(Call::Page { size, place: row.place() as u32, entry: row.entry(), ticket: row.ticket() });
+    }
+    calls
+}
+
+/// The slice of a book.
+pub fn packed(next_ticket: u32, rows: &[[u8; PACKED_ROW]]) -> Vec<u8> {
+    let mut book = Vec::new();
+    push(&mut book, next_ticket, 3);
+    push(&mut book, rows.len() as u32, 2);
+    book.extend(rows.as_flattened());
+    book
 }
 
 fn small() -> Scene {
