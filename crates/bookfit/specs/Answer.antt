@@ -8,21 +8,19 @@ use Rattle.laws.specs.Lists.{at}
 use Rattle.rules.specs.Limits.{rowLimit, ticketLimit}
 use Rattle.rules.specs.Map.{MapRules, linked}
 use Rattle.rules.specs.Rows.{Rising}
-use Rattle.rules.specs.Book.{AllWhole, Counted, Unbarred, WellFormed}
+use Rattle.rules.specs.Book.{Counted, Unbarred, WellFormed}
 use Rattle.rules.specs.Fault.{Fault}
 use Rattle.rules.specs.Fault.Fault.{miscounted, unrising, broken, overfull, barred}
 use Rattle.lanes.specs.Yards.{yard-rules}
 use Rattle.lanes.specs.Nodes.{Windows}
-use Rattle.flat.specs.Flat.{placesIn, linksIn, yardIn, rowsIn, Packed, KeysRise, spanAt, Grouped}
+use Rattle.flat.specs.Flat.{placesIn, linksIn, yardIn, Of, rowsIn, spanAt, Grouped}
 use Rattle.flat.specs.Laws.{links-long, rows-long, yard-of}
 use Rattle.lookup.specs.Order.{keys-rising}
-use Rattle.lookup.specs.Crossings.{ByPlace}
-use Rattle.windows.specs.Places.{Given, AllWindows}
+use Rattle.windows.specs.Places.{AllWindows}
 use Rattle.bookfit.specs.Least.{Lowest, LowestRow}
 use Rattle.bookfit.specs.Rows.{AllInRange, Fits, OnMap}
 use Rattle.bookfit.specs.Prefix.{FirstAt, FirstFall}
-use Rattle.bookfit.specs.Bridge.{RunOk}
-use Rattle.bookfit.specs.Formed.{ranges-counted, counted-ranges, Capped, capped-room, capped-first, runs-whole, row-broken, runs-given, runs-by-place}
+use Rattle.bookfit.specs.Formed.{counted-ranges, Capped, capped-room, capped-first, Numbered, Ordered, RunsIn, Running, numbered-counts, runs-whole, row-broken}
 
 -- the arrays lent for windows
 pub record Lent (S E P A : List ℕ) : Type 0 where
@@ -34,8 +32,7 @@ pub record Lent (S E P A : List ℕ) : Type 0 where
 -- r is the number of the first row of the lowest ticket of which a row does not fit, join or end its run once, given the least ticket of one that does not fit
 abbrev pub FirstBroken : (K X : List ℕ) (count unfit r : ℕ) → Type 0
 FirstBroken K X count unfit r =
-    (n k : ℕ) (D F T : List ℕ) → Lowest (Fits n (at D) (linked (linksIn F T k)) (at K) (at X)) (at K) count unfit
-    → LowestRow (RunOk n (at D) (linked (linksIn F T k)) (at K) (at X) count) K count r
+    (n k : ℕ) (D F T : List ℕ) → Lowest (Fits n (at D) (linked (linksIn F T k)) (at K) (at X)) (at K) count unfit → LowestRow (RunsIn D n F T k K X count) K count r
 
 -- a refusal and its row as one number
 abbrev pub faultCode : ℕ → ℕ → ℕ
@@ -51,65 +48,52 @@ pub data BookFits (C D : List ℕ) (n : ℕ) (F T : List ℕ) (k : ℕ) (K X : L
 pub few-links : (C D : List ℕ) (n : ℕ) (F T : List ℕ) (k : ℕ) → MapRules (placesIn C D n) (linksIn F T k) → k ≤ 1024
 few-links C D n F T k M = omega (arith, M .few-links, links-long F T k)
 
-module _ (C D : List ℕ) (n : ℕ) (F T : List ℕ) (k : ℕ) (K X : List ℕ) (count t : ℕ) (M : MapRules (placesIn C D n) (linksIn F T k)) (S E P A : List ℕ) where
-  abbrev Fits? : ℕ → Type 0
-  Fits? r = BookFits C D n F T k K X count t r S E P A
+pub links-on : (C D : List ℕ) (n : ℕ) (F T : List ℕ) (k : ℕ) → MapRules (placesIn C D n) (linksIn F T k) → OnMap n (linked (linksIn F T k))
+links-on C D n F T k M p q e = omega (arith, yard-rules M .to-on p q e, yard-of C D F T n k M .places)
 
-  abbrev Within : Type 0
-  Within = AllInRange n t (at K) (at X) count
+-- ---- what the book is found to be, check by check
 
-  abbrev Ok : ℕ → Type 0
-  Ok i = RunOk n (at D) (linked (linksIn F T k)) (at K) (at X) count i
+module _ {C D : List ℕ} {n : ℕ} {F T : List ℕ} {k : ℕ} {K X : List ℕ} {count t : ℕ} (Z : Running C D n F T k K X count t) where
+  counts : Counted (yardIn C D n F T k) (rowsIn K X count) t
+  counts = numbered-counts (Z .ordered .numbered)
 
-  pub links-on : OnMap n (linked (linksIn F T k))
-  links-on p q e = omega (arith, yard-rules M .to-on p q e, yard-of C D F T n k M .places)
+  rising : Rising (rowsIn K X count)
+  rising = keys-rising K X count (Z .ordered .rises)
 
+  yard : Of (yardIn C D n F T k) C D n
+  yard = yard-of C D F T n k (Z .ordered .numbered .rules)
+
+module _ {C D : List ℕ} {n : ℕ} {F T : List ℕ} {k : ℕ} {K X : List ℕ} {count t : ℕ} {S E P A : List ℕ} where
   -- 2
-  pub book-many : {r : ℕ} → r ≡ faultCode 2 0 → rowLimit < count → Fits? r
+  pub book-many : {r : ℕ} → r ≡ faultCode 2 0 → rowLimit < count → BookFits C D n F T k K X count t r S E P A
   book-many e h = faulty 2 0 e (miscounted (λ W. omega (arith, W .few, rows-long K X count)))
 
-  pub book-ticket : {r : ℕ} → r ≡ faultCode 2 0 → (1 ≤ t → t ≤ ticketLimit → ⊥) → Fits? r
+  pub book-ticket : {r : ℕ} → r ≡ faultCode 2 0 → (1 ≤ t → t ≤ ticketLimit → ⊥) → BookFits C D n F T k K X count t r S E P A
   book-ticket e f = faulty 2 0 e (miscounted (λ W. f (W .ticket-from) (W .ticket-to)))
 
-  pub book-out : {r : ℕ} → r ≡ faultCode 2 0 → (Within → ⊥) → Fits? r
-  book-out e f = faulty 2 0 e (miscounted (λ W. f (counted-ranges (yard-of C D F T n k M) K X count t W)))
+  pub book-out : MapRules (placesIn C D n) (linksIn F T k) → {r : ℕ} → r ≡ faultCode 2 0 → (AllInRange n t (at K) (at X) count → ⊥)
+      → BookFits C D n F T k K X count t r S E P A
+  book-out M e f = faulty 2 0 e (miscounted (λ W. f (counted-ranges (yard-of C D F T n k M) K X count t W)))
 
-  module _ (few : count ≤ rowLimit) (from : 1 ≤ t) (to : t ≤ ticketLimit) (R : Within) where
-    counts : Counted (yardIn C D n F T k) (rowsIn K X count) t
-    counts = ranges-counted (yard-of C D F T n k M) K X count t few from to R
+  -- 13
+  pub book-falls : Numbered C D n F T k K X count t → {i r : ℕ} → r ≡ faultCode 13 i → FirstFall K count i → 0 < i → BookFits C D n F T k K X count t r S E P A
+  book-falls Z {i} e f h = faulty 13 i e (unrising (numbered-counts Z) (f .falls h X .first))
 
-    -- 13
-    pub book-falls : {i r : ℕ} → r ≡ faultCode 13 i → FirstFall K count i → 0 < i → Fits? r
-    book-falls {i} e f h = faulty 13 i e (unrising counts (f .falls h X .first))
+  -- 14
+  pub book-broken : Ordered C D n F T k K X count t → {i r : ℕ} → r ≡ faultCode 14 i → LowestRow (RunsIn D n F T k K X count) K count i → 0 < i
+      → BookFits C D n F T k K X count t r S E P A
+  book-broken Z {i} e L h = faulty 14 i e (broken (numbered-counts (Z .numbered)) (keys-rising K X count (Z .rises)) (row-broken Z L h))
 
-    module _ (U : KeysRise K count) where
-      rising : Rising (rowsIn K X count)
-      rising = keys-rising K X count U
+  module _ (Z : Running C D n F T k K X count t) where
+    -- 15
+    pub book-overfull : {i r : ℕ} → r ≡ faultCode 15 i → FirstAt (Capped n C) K X count i → BookFits C D n F T k K X count t r S E P A
+    book-overfull {i} e f = faulty 15 i e (overfull (counts Z) (rising Z) (runs-whole Z) (capped-first (yard Z) (f .first)))
 
-      -- 14
-      pub book-broken : {i r : ℕ} → r ≡ faultCode 14 i → LowestRow Ok K count i → 0 < i → Fits? r
-      book-broken {i} e L h = faulty 14 i e (broken counts rising (row-broken C D n F T k K X count t M R U L h))
+    -- 16
+    pub book-barred : Capped n C (rowsIn K X count) → {i r : ℕ} → r ≡ faultCode 16 i → FirstAt Unbarred K X count i → BookFits C D n F T k K X count t r S E P A
+    book-barred room {i} e f = faulty 16 i e (barred (counts Z) (rising Z) (runs-whole Z) (capped-room (yard Z) _ room) (f .first))
 
-      module _ (O : (i : ℕ) → i < count → Ok i) where
-        whole : AllWhole (yardIn C D n F T k) (rowsIn K X count)
-        whole = runs-whole C D n F T k K X count t M R U O
-
-        pub book-given : Given n count C D K X
-        book-given = runs-given C D n F T k K X count t M R U few O
-
-        pub book-by-place : Packed K → ByPlace K X count
-        book-by-place = runs-by-place C D n F T k K X count t M R U few O
-
-        -- 15
-        pub book-overfull : {i r : ℕ} → r ≡ faultCode 15 i → FirstAt (Capped n C) K X count i → Fits? r
-        book-overfull {i} e f = faulty 15 i e (overfull counts rising whole (capped-first (yard-of C D F T n k M) (f .first)))
-
-        module _ (room : Capped n C (rowsIn K X count)) where
-          -- 16
-          pub book-barred : {i r : ℕ} → r ≡ faultCode 16 i → FirstAt Unbarred K X count i → Fits? r
-          book-barred {i} e f = faulty 16 i e (barred counts rising whole (capped-room (yard-of C D F T n k M) _ room) (f .first))
-
-          pub book-good : {w : ℕ} → AllWindows n count C D K X w S E P A → w < 1281 → Unbarred (rowsIn K X count) → Fits? w
-          book-good all h B = good h
-              (record { counted = counts; rising = rising; whole = whole; room = capped-room (yard-of C D F T n k M) _ room; exchange = B })
-              (all .windows h (yardIn C D n F T k) (yard-of C D F T n k M)) (all .by-place h)
+    pub book-good : {w : ℕ} → AllWindows n count C D K X w S E P A → w < 1281 → Unbarred (rowsIn K X count) → BookFits C D n F T k K X count t w S E P A
+    book-good all h B = good h
+        (record { counted = counts Z; rising = rising Z; whole = runs-whole Z; room = capped-room (yard Z) _ (all .fits h); exchange = B })
+        (all .windows h (yardIn C D n F T k) (yard Z)) (all .by-place h)

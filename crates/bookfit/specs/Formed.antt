@@ -13,7 +13,7 @@ use Rattle.rules.specs.Rows.{rowAt, load}
 use Rattle.rules.specs.Book.{Whole, AllWhole, Room, Counted}
 use Rattle.rules.specs.Fault.{FirstBad, BrokenAt}
 use Rattle.rules.specs.FaultLaws.{Inherited, room-inherited}
-use Rattle.lanes.specs.Yards.{yard-rules}
+use Rattle.lanes.specs.Yards.{YardRules, yard-rules}
 use Rattle.flat.specs.Flat.{placesIn, linksIn, yardIn, placeOf, ticketOf, Of, rowsIn, Packed, KeysRise}
 use Rattle.flat.specs.Laws.{places-long, place-in, rows-long, row-in, yard-of}
 use Rattle.lookup.specs.Crossings.{ByPlace}
@@ -100,74 +100,99 @@ module _ {Y : Yard} {C D : List ℕ} {n : ℕ} (O : Of Y C D n) where
   pub capped-first : {rows : List Row} {i : ℕ} → FirstBad (Capped n C) rows i → FirstBad (Room Y) rows i
   capped-first F = record { from = F .from; good = capped-room _ (F .good); bad = λ q. F .bad (room-capped _ q) }
 
+-- ---- what is known of a map and a book past each check
+
+-- past 2: the map keeps its rules, and counts and numbers are in their ranges
+pub record Numbered (C D : List ℕ) (n : ℕ) (F T : List ℕ) (k : ℕ) (K X : List ℕ) (count t : ℕ) : Type 0 where
+  pub rules : MapRules (placesIn C D n) (linksIn F T k)
+  pub few : count ≤ rowLimit
+  pub ticket-from : 1 ≤ t
+  pub ticket-to : t ≤ ticketLimit
+  pub within : AllInRange n t (at K) (at X) count
+
+-- past 13
+pub record Ordered (C D : List ℕ) (n : ℕ) (F T : List ℕ) (k : ℕ) (K X : List ℕ) (count t : ℕ) : Type 0 where
+  pub numbered : Numbered C D n F T k K X count t
+  pub rises : KeysRise K count
+
+abbrev pub RunsIn : (D : List ℕ) (n : ℕ) (F T : List ℕ) (k : ℕ) (K X : List ℕ) (count i : ℕ) → Type 0
+RunsIn D n F T k K X count i = RunOk n (at D) (linked (linksIn F T k)) (at K) (at X) count i
+
+-- past 14
+pub record Running (C D : List ℕ) (n : ℕ) (F T : List ℕ) (k : ℕ) (K X : List ℕ) (count t : ℕ) : Type 0 where
+  pub ordered : Ordered C D n F T k K X count t
+  pub runs : (i : ℕ) → i < count → RunsIn D n F T k K X count i
+
+pub numbered-counts : {C D : List ℕ} {n : ℕ} {F T : List ℕ} {k : ℕ} {K X : List ℕ} {count t : ℕ} → Numbered C D n F T k K X count t
+    → Counted (yardIn C D n F T k) (rowsIn K X count) t
+numbered-counts {C} {D} {n} {F} {T} {k} {K} {X} {count} {t} Z =
+    ranges-counted (yard-of C D F T n k (Z .rules)) K X count t (Z .few) (Z .ticket-from) (Z .ticket-to) (Z .within)
+
 -- ---- runs
 
-module _ (C D : List ℕ) (n : ℕ) (F T : List ℕ) (k : ℕ) (K X : List ℕ) (count t : ℕ) (M : MapRules (placesIn C D n) (linksIn F T k))
-    (A : AllInRange n t (at K) (at X) count) (U : KeysRise K count) where
-  abbrev Y : Yard
-  Y = yardIn C D n F T k
+module _ {C D : List ℕ} {n : ℕ} {F T : List ℕ} {k : ℕ} {K X : List ℕ} {count t : ℕ} (Z : Ordered C D n F T k K X count t) where
+  yard : Of (yardIn C D n F T k) C D n
+  yard = yard-of C D F T n k (Z .numbered .rules)
 
-  abbrev rows : List Row
-  rows = rowsIn K X count
+  lanes : YardRules (yardIn C D n F T k)
+  lanes = yard-rules (Z .numbered .rules)
 
-  abbrev Ok : ℕ → Type 0
-  Ok i = RunOk n (at D) (linked (linksIn F T k)) (at K) (at X) count i
+  whole-at : (j : ℕ) → ((i : ℕ) → i < count → ticketOf (at K i) ≡ j → RunsIn D n F T k K X count i) → (r : Row) → List·Memᴰ r (rowsIn K X count) → r .ticket ≡ j
+      → Whole (yardIn C D n F T k) (rowsIn K X count) j
+  whole-at j f r m e = tested-whole lanes (index-tested K X count (yardIn C D n F T k) j (λ i h q. let o = f i h q in (fits-yard yard (o .0), o .1))) r m e
 
-  whole-at : (j : ℕ) → ((i : ℕ) → i < count → ticketOf (at K i) ≡ j → Ok i) → (r : Row) → List·Memᴰ r rows → r .ticket ≡ j → Whole Y rows j
-  whole-at j f r m e =
-      tested-whole (yard-rules M) (index-tested K X count Y j (λ i h q. let o = f i h q in (fits-yard (yard-of C D F T n k M) (o .0), o .1))) r m e
-
-  at-whole : (j : ℕ) → Whole Y rows j → (i : ℕ) → i < count → ticketOf (at K i) ≡ j → Ok i
+  at-whole : (j : ℕ) → Whole (yardIn C D n F T k) (rowsIn K X count) j → (i : ℕ) → i < count → ticketOf (at K i) ≡ j → RunsIn D n F T k K X count i
   at-whole j W i h e =
-      let o = tested-index K X count Y U (λ i h. omega (arith, A .each i h .1 .exit)) (whole-tested (yard-rules M) W) i h e in
-      (yard-fits (yard-of C D F T n k M) (o .0), o .1)
+      let o = tested-index K X count (yardIn C D n F T k) (Z .rises) (λ i h. omega (arith, Z .numbered .within .each i h .1 .exit)) (whole-tested lanes W) i h e in
+      (yard-fits yard (o .0), o .1)
 
-  pub runs-whole : ((i : ℕ) → i < count → Ok i) → AllWhole Y rows
-  runs-whole f r m = whole-at (r .ticket) (λ i h _. f i h) r m refl
-
-  pub row-broken : {r : ℕ} → LowestRow Ok K count r → 0 < r → BrokenAt Y rows r
+  pub row-broken : {r : ℕ} → LowestRow (RunsIn D n F T k K X count) K count r → 0 < r → BrokenAt (yardIn C D n F T k) (rowsIn K X count) r
   row-broken {r} L h = record {
     from = h;
     to = omega (arith, rows-long K X count, L .bound);
-    broken = λ W. let x = L .fails h in x .3 (at-whole (ticketOf (at K (r - 1))) (subst (Whole Y rows) here W) (x .0) (x .1) (x .2));
+    broken = λ W. let x = L .fails h in x .3 (at-whole (ticketOf (at K (r - 1))) (subst (Whole (yardIn C D n F T k) (rowsIn K X count)) here W) (x .0) (x .1) (x .2));
     lower = λ s m l. whole-at (s .ticket) (λ i g e. L .lower h i g (omega (arith, here))) s m refl;
     first = λ j g e. L .first h j g (sym (ap (λ (x : Row). x .ticket) (row-in K X count j (omega (arith, L .bound)))) ∙ e ∙ here);
   }
     where
-      here : rowAt rows (r - 1) .ticket ≡ ticketOf (at K (r - 1))
+      here : rowAt (rowsIn K X count) (r - 1) .ticket ≡ ticketOf (at K (r - 1))
       here = ap (λ (x : Row). x .ticket) (row-in K X count (r - 1) (omega (arith, L .bound)))
 
-  module _ (few : count ≤ rowLimit) (O : (i : ℕ) → i < count → Ok i) where
-    -- what finding the windows asks for
-    pub runs-given : Given n count C D K X
-    runs-given =
-        let l = places-long C D n in
-        record {
-          places = omega (arith, M .few);
-          rows = few;
-          cap-from = λ p h. omega (arith, M .cap-from p (omega arith), ap (λ (x : Place). x .capacity) (place-in C D n p h));
-          cap-to = λ p h. omega (arith, M .cap-to p (omega arith), ap (λ (x : Place). x .capacity) (place-in C D n p h));
-          dur-from = λ p h. omega (arith, M .dur-from p (omega arith), ap (λ (x : Place). x .duration) (place-in C D n p h));
-          dur-to = λ p h. omega (arith, M .dur-to p (omega arith), ap (λ (x : Place). x .duration) (place-in C D n p h));
-          rising = U;
-          on-map = λ i h. O i h .0 .on-map;
-          lasts = λ i h.
-              let f = O i h .0 in
-              let p = placeOf (at K i) in
-              let o = f .on-map in
-              omega (arith, f .lasts, M .dur-from p (omega arith), ap (λ (x : Place). x .duration) (place-in C D n p o));
-          in-day = λ i h. O i h .0 .in-day;
-        }
+module _ {C D : List ℕ} {n : ℕ} {F T : List ℕ} {k : ℕ} {K X : List ℕ} {count t : ℕ} (Z : Running C D n F T k K X count t) where
+  pub runs-whole : AllWhole (yardIn C D n F T k) (rowsIn K X count)
+  runs-whole r m = whole-at (Z .ordered) (r .ticket) (λ i h _. Z .runs i h) r m refl
 
-    -- what the exchange test asks for: a row that goes on has its successor, which enters where and when it leaves
-    pub runs-by-place : Packed K → ByPlace K X count
-    runs-by-place Q = record {
-      timed = record {
-        keyed = record { few = few; small = λ i _. Q .keys i; rises = U };
-        lasts = λ i h. runs-given .lasts i h;
-      };
-      goes-in = λ i h g.
-          let f = O i h .1 .0 .found g in
-          let q = next-parts (at K i) (at X i) (at K (f .at)) (omega (arith, O i h .0 .in-day)) (f .is) in
-          record { row = f .at; within = f .within; place = q .0; entry = q .1 };
-    }
+  -- what finding the windows asks for
+  pub runs-given : Given n count C D K X
+  runs-given =
+      let M = Z .ordered .numbered .rules in
+      let l = places-long C D n in
+      record {
+        places = omega (arith, M .few);
+        rows = Z .ordered .numbered .few;
+        cap-from = λ p h. omega (arith, M .cap-from p (omega arith), ap (λ (x : Place). x .capacity) (place-in C D n p h));
+        cap-to = λ p h. omega (arith, M .cap-to p (omega arith), ap (λ (x : Place). x .capacity) (place-in C D n p h));
+        dur-from = λ p h. omega (arith, M .dur-from p (omega arith), ap (λ (x : Place). x .duration) (place-in C D n p h));
+        dur-to = λ p h. omega (arith, M .dur-to p (omega arith), ap (λ (x : Place). x .duration) (place-in C D n p h));
+        rising = Z .ordered .rises;
+        on-map = λ i h. Z .runs i h .0 .on-map;
+        lasts = λ i h.
+            let f = Z .runs i h .0 in
+            let p = placeOf (at K i) in
+            let o = f .on-map in
+            omega (arith, f .lasts, M .dur-from p (omega arith), ap (λ (x : Place). x .duration) (place-in C D n p o));
+        in-day = λ i h. Z .runs i h .0 .in-day;
+      }
+
+  -- what the exchange test asks for: a row that goes on has its successor, which enters where and when it leaves
+  pub runs-by-place : Packed K → ByPlace K X count
+  runs-by-place Q = record {
+    timed = record {
+      keyed = record { few = Z .ordered .numbered .few; small = λ i _. Q .keys i; rises = Z .ordered .rises };
+      lasts = λ i h. runs-given .lasts i h;
+    };
+    goes-in = λ i h g.
+        let f = Z .runs i h .1 .0 .found g in
+        let q = next-parts (at K i) (at X i) (at K (f .at)) (omega (arith, Z .runs i h .0 .in-day)) (f .is) in
+        record { row = f .at; within = f .within; place = q .0; entry = q .1 };
+  }

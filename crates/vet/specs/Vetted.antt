@@ -5,7 +5,7 @@ use mathlib.Core.List.{List, List·Memᴰ}
 use mathlib.Core.Bool.{Bool, true, false}
 use native.Mathlib.Omega.{arith}
 use lib.Dec.{eqb}
-use borrow.Author.Tests.{eq-eqb, ne-eqb}
+use borrow.Author.Tests.{eq-eqb}
 use Rattle.laws.specs.Tests.{not-both}
 use Rattle.rules.specs.declared.Row.{Row}
 use Rattle.rules.specs.declared.Refusal.{Refusal}

@@ -8,7 +8,6 @@ use Rattle.bookfit.specs.Prefix.{Narrowed, narrowed-start, narrowed-up, 
 use borrow.Author.Needs.{needs}
 use Rattle.bookfit.proofs.first_barred.Statement.{statement}
 use Rattle.bookfit.proofs.first_barred.Tie as tie
-use Rattle.bookfit.proofs.ring_free.Reads as ring-free-reads
 
 abbrev Inv-loop : tie.InvT-loop
 Inv-loop key tail count good₀ bad₀ good bad = Narrowed Unbarred key tail count good bad

@@ -3,10 +3,6 @@ use Rattle.bookfit.specs.Least.{lowest-both, lowest-none, lowest-row}
 use borrow.Author.Needs.{needs}
 use Rattle.bookfit.proofs.first_broken.Statement.{statement}
 use Rattle.bookfit.proofs.first_broken.Tie as tie
-use Rattle.bookfit.proofs.first_of.Reads as first-of-reads
-use Rattle.bookfit.proofs.least.Reads as least-reads
-use Rattle.bookfit.proofs.least_ended.Reads as least-ended-reads
-use Rattle.bookfit.proofs.least_unjoined.Reads as least-unjoined-reads
 
 least-unjoined-requires : tie.Need-least-unjoined-requires
 least-unjoined-requires c κs = search needs

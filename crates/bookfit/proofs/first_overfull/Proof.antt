@@ -7,7 +7,6 @@ use Rattle.bookfit.specs.Answer.{Lent}
 use borrow.Author.Needs.{needs}
 use Rattle.bookfit.proofs.first_overfull.Statement.{statement}
 use Rattle.bookfit.proofs.first_overfull.Tie as tie
-use Rattle.windows.proofs.all_windows.Reads as all-windows-reads
 
 abbrev Inv-loop : tie.InvT-loop
 Inv-loop n count cap dur key tail start₀ end₀ place₀ first₀ good₀ bad₀ start end place first good bad =

@@ -5,8 +5,6 @@ use Rattle.laws.specs.Tests.{not-both}
 use borrow.Author.Needs.{needs}
 use Rattle.bookfit.proofs.in_range.Statement.{statement}
 use Rattle.bookfit.proofs.in_range.Tie as tie
-use Rattle.flat.proofs.exit_of.Reads as exit-of-reads
-use Rattle.flat.proofs.next_of.Reads as next-of-reads
 
 returns : tie.Need-returns
 returns c = (λ q. absurd (not-both q refl), λ R. absurd (omega (arith, R .place, c .if1 .taken)))

@@ -10,10 +10,6 @@ use Rattle.bookfit.specs.Marks.{Takes, takes-start, takes-last, takes-no
 use borrow.Author.Needs.{needs}
 use Rattle.bookfit.proofs.least_astray.Statement.{statement}
 use Rattle.bookfit.proofs.least_astray.Tie as tie
-use Rattle.bookfit.proofs.is_last.Reads as is-last-reads
-use Rattle.bookfit.proofs.least.Reads as least-reads
-use Rattle.bookfit.proofs.next_key.Reads as next-key-reads
-use Rattle.lookup.proofs.hinted.Reads as hinted-reads
 
 abbrev Inv-loop : tie.InvT-loop
 Inv-loop key tail count hint taken₀ low₀ i₀ taken low i = (i ≤ count) × Takes (at key) (at tail) count i taken low

@@ -11,10 +11,6 @@ use Rattle.bookfit.specs.Marks.{Ended, ended-start, ended-not, ended-aga
 use borrow.Author.Needs.{needs}
 use Rattle.bookfit.proofs.least_ended.Statement.{statement}
 use Rattle.bookfit.proofs.least_ended.Tie as tie
-use Rattle.bookfit.proofs.is_last.Reads as is-last-reads
-use Rattle.bookfit.proofs.last_met.Reads as last-met-reads
-use Rattle.bookfit.proofs.least.Reads as least-reads
-use Rattle.bookfit.proofs.slot_of.Reads as slot-of-reads
 
 abbrev Inv-loop : tie.InvT-loop
 Inv-loop key tail count seen₀ low₀ i₀ seen low i = (i ≤ count) × Ended (at key) (at tail) i seen low

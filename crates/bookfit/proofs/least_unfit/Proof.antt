@@ -11,10 +11,6 @@ use Rattle.laws.specs.Tests.{not-both}
 use borrow.Author.Needs.{needs}
 use Rattle.bookfit.proofs.least_unfit.Statement.{statement}
 use Rattle.bookfit.proofs.least_unfit.Tie as tie
-use Rattle.bookfit.proofs.in_range.Reads as in-range-reads
-use Rattle.bookfit.proofs.least.Reads as least-reads
-use Rattle.bookfit.proofs.row_fits.Reads as row-fits-reads
-use Rattle.bookfit.proofs.ticket_fits.Reads as ticket-fits-reads
 
 abbrev Inv-loop : tie.InvT-loop
 Inv-loop n k dur from to head chain next-ticket key tail count low₀ i₀ low i = (i ≤ count) × UnfitTo n (at dur) (linked (linksIn from to k)) (at key) (at tail) next-ticket i low
