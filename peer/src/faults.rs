@@ -135,18 +135,20 @@ pub fn leads_back(met: &[(usize, usize)], place: usize) -> bool {
 /// At each second each place holds at most its capacity: every place and second is looked at at
 /// which one of these rows stands.
 pub fn load_kept(map: &Map, rows: &[Row]) -> bool {
-    (0..map.places.len()).all(|place| {
-        let stays: Vec<&Row> = rows.iter().filter(|row| row.place == place).collect();
-        let first = stays.iter().map(|row| row.entry).min().unwrap_or(0);
-        let end = stays.iter().map(|row| row.exit).max().unwrap_or(0);
-        let mut load = vec![0u32; end.saturating_sub(first) as usize];
-        for row in stays {
-            for second in row.entry..row.exit {
-                load[(second - first) as usize] += 1;
-            }
+    (0..map.places.len()).all(|place| place_kept(map, rows, place))
+}
+
+fn place_kept(map: &Map, rows: &[Row], place: usize) -> bool {
+    let stays: Vec<&Row> = rows.iter().filter(|row| row.place == place).collect();
+    let first = stays.iter().map(|row| row.entry).min().unwrap_or(0);
+    let end = stays.iter().map(|row| row.exit).max().unwrap_or(0);
+    let mut load = vec![0u32; end.saturating_sub(first) as usize];
+    for row in stays {
+        for second in row.entry..row.exit {
+            load[(second - first) as usize] += 1;
         }
-        load.iter().all(|&wagons| wagons <= map.places[place].capacity)
-    })
+    }
+    load.iter().all(|&wagons| wagons <= map.places[place].capacity)
 }
 
 /// In no second do crossings lead from a place back to it: there is no ring of two or more
@@ -165,6 +167,16 @@ pub fn shortest_ring(book: &Book) -> Option<usize> {
     let mut with_ring = crossings(&book.rows);
     with_ring.retain(|_, met| closes_ring(met, MOST_PLACES));
     with_ring.values().filter_map(|met| (1..=MOST_PLACES).find(|&steps| closes_ring(met, steps))).min()
+}
+
+/// How many others a refusal passes over: at a 14 the broken tickets that are stored before the one
+/// named, at a 15 the other overfull places.
+pub fn rivals(map: &Map, rows: &[Row], (number, row): Refusal) -> usize {
+    match number {
+        BROKEN_RUN => tickets(&rows[..row - 1]).into_iter().filter(|&ticket| broken(map, rows, ticket)).count(),
+        OVERFULL => (0..map.places.len()).filter(|&place| !place_kept(map, rows, place)).count() - 1,
+        _ => 0,
+    }
 }
 
 /// The numbers of all checks that do not hold, each asked on its own. 13 is asked of all rows; 15

@@ -12,11 +12,13 @@
 //! number of places of the shortest, and the other calls print nothing. With `--faults`, each call
 //! prints instead what is wrong with its map or book (`src/faults.rs`):
 //!
-//!     NUMBER ROW ROWS KINDS
+//!     NUMBER ROW ROWS KINDS RIVALS
 //!
 //! NUMBER and ROW are those of the refusal, 0 0 where there is none; ROWS is the book's count;
 //! KINDS are the numbers of all checks that do not hold, each asked on its own, with + between
-//! them (- for none). With `--error N` a rule is misread (`src/misread.rs`).
+//! them (- for none); RIVALS is how many broken tickets are stored before the one that a 14 names,
+//! or how many other places are overfull at a 15. With `--error N` a rule is misread
+//! (`src/misread.rs`).
 
 mod barn;
 mod desk;
@@ -136,13 +138,13 @@ fn ring_alone(map: &[u8], book: &[u8]) -> Option<usize> {
 fn faults_line(map: &[u8], book: &[u8]) -> String {
     let (number, row) = lent(map, book, None).err().unwrap_or((DONE, 0));
     let count = book_of(book).map_or(0, |book| book.rows.len());
-    let kinds = match (map_of(map).filter(|map| map.keeps_rules()), book_of(book)) {
-        (Some(map), Some(book)) => kinds(&map, &book),
-        _ => vec![number],
+    let (kinds, rivals) = match (map_of(map).filter(|map| map.keeps_rules()), book_of(book)) {
+        (Some(map), Some(book)) => (kinds(&map, &book), rivals(&map, &book.rows, (number, row))),
+        _ => (vec![number], 0),
     };
     let kinds: Vec<String> = kinds.iter().map(|number| number.to_string()).collect();
     let kinds = if kinds.is_empty() { "-".to_string() } else { kinds.join("+") };
-    format!("{} {} {} {}", number, row, count, kinds)
+    format!("{} {} {} {} {}", number, row, count, kinds, rivals)
 }
 
 fn answer_line(seconds: &mut Seconds, words: &[&str], error: Option<u32>) -> Answer {

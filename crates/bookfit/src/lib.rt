@@ -176,7 +176,7 @@ fn least_ended(key: &[u64; 1024], tail: &[u32; 1024], count: usize) -> u64
     low
 }
 
-// ---- each row by itself
+// ---- the order of keys, and each row by itself
 
 // The number, from 1, of the first row whose key is not above the one before it; 0 where keys rise.
 fn first_fall(key: &[u64; 1024], count: usize) -> usize
