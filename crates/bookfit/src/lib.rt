@@ -1,6 +1,8 @@
 // Whether rows given as arrays of numbers are a well-formed book, and if not what is wrong and at which row: each test looks through the arrays once, or only
 // where it must.
 // Keys are packed, so that the order of keys is the order of numbers.
+#![tactic(auto)]
+
 ghost use Rattle.std.specs.Prelude.{◌≡◌, true, false, ℕ, ◌+◌, ◌≤◌, ◌<◌, ◌%◌, length, eqb};
 ghost use Rattle.laws.specs.Tests.{Decides};
 ghost use Rattle.laws.specs.Lists.{at};

@@ -1,5 +1,7 @@
 // The calls by value on good and bad maps and books, a line for each call: what was asked, the number answered, and whether the caller's memory
 // is as it was. Each call stands with the number that the rules ask for, and its line ends with "wrong" where the answer or the memory is another.
+#![tactic(auto)]
+
 ghost use Rattle.std.specs.Prelude.{◌*◌, ◌≤◌, ◌<◌};
 ghost use Rattle.rules.specs.Limits.{page_limit};
 ghost use Rattle.rules.specs.Bytes.{row_size};

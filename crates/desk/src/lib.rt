@@ -1,4 +1,6 @@
 // The calls' answers over lent arrays: what is said once map and book are known as numbers.
+#![tactic(auto)]
+
 ghost use Rattle.std.specs.Prelude.{ℕ, ◌≤◌, ◌<◌};
 ghost use Rattle.rules.specs.Rows.{load};
 ghost use Rattle.rules.specs.Answer.{PlanSound, PlanSays};

@@ -1,5 +1,7 @@
 // Map and book as separate arrays of numbers, lent to all that works below the public calls: specs/ say what they stand for. A row is two numbers,
 // its key (place, entry and ticket) and its tail (exit and next place).
+#![tactic(auto)]
+
 ghost use Rattle.std.specs.Prelude.{◌≡◌, ◌<◌};
 ghost use Rattle.rules.specs.Bytes.{field_limit};
 ghost use Rattle.flat.specs.Flat.{place_of, exit_of, next_value, tail_value, key_limit};

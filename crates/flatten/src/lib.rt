@@ -1,4 +1,6 @@
 // Turns a map and a book, as they are handed over by value, into the arrays of numbers that all below works on.
+#![tactic(auto)]
+
 ghost use Rattle.std.specs.Prelude.{◌≡◌, ℕ, ◌<◌, length};
 ghost use Rattle.laws.specs.Lists.{at};
 ghost use Rattle.laws.specs.Tests.{Decides};

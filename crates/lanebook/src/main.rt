@@ -1,4 +1,6 @@
 // Reads frames from standard input and writes their answers: those of all whole lines read so far are written before it reads again.
+#![tactic(auto)]
+
 ghost use Rattle.std.specs.Prelude.{◌≤◌, length};
 ghost use Rattle.rules.specs.Bytes.{answer_room};
 ghost use Rattle.lanebook.specs.Turns.{Took};

@@ -1,4 +1,6 @@
 // Free windows, reached entries and plans, as mathematics. It stands in specs/; the crate has no code to run.
+#![tactic(auto)]
+
 pub fn same(x: u32) -> u32 {
     x
 }

@@ -1,4 +1,6 @@
 // Changes of a book, by value: a ticket's rows taken out, a ticket issued. The laws of a row put in stand in specs/.
+#![tactic(auto)]
+
 ghost use Rattle.std.specs.Prelude.{◌≡◌, List, [], ℕ, ◌+◌, ◌≤◌, ◌<◌, length};
 ghost use Rattle.rules.specs.declared.Row.{Row};
 ghost use Rattle.rules.specs.Limits.{row_limit, ticket_limit};

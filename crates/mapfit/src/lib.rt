@@ -1,4 +1,6 @@
 // Tests a map that is given as arrays, and links its links by place.
+#![tactic(auto)]
+
 ghost use Rattle.std.specs.Prelude.{◌≡◌, ℕ, ◌≤◌, ◌<◌, length};
 ghost use Rattle.laws.specs.Lists.{at};
 ghost use Rattle.laws.specs.Tests.{Decides};

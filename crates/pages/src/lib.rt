@@ -1,4 +1,6 @@
 // The rows after a cursor, over lent arrays of numbers, as records in the caller's list.
+#![tactic(auto)]
+
 ghost use Rattle.std.specs.Prelude.{◌≡◌, ◌+◌, ◌≤◌, ◌<◌};
 ghost use Rattle.rules.specs.declared.Paged.{Paged};
 ghost use Rattle.rules.specs.Limits.{row_limit, page_limit};

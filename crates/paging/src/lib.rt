@@ -1,4 +1,6 @@
 // The page call: over lent arrays of numbers, and on a map and a book by value.
+#![tactic(auto)]
+
 ghost use Rattle.std.specs.Prelude.{◌≡◌, ◌≤◌};
 ghost use Rattle.rules.specs.Map.{Yard};
 ghost use Rattle.rules.specs.Rows.{cursor_key};

@@ -1,4 +1,6 @@
 // The earliest permitted plan beside a book, over lent arrays.
+#![tactic(auto)]
+
 ghost use Rattle.std.specs.Prelude.{◌≡◌, ℕ, ◌+◌, ◌*◌, ◌≤◌, ◌<◌, length, take};
 ghost use Rattle.laws.specs.Lists.{at};
 ghost use Rattle.rules.specs.Limits.{day};

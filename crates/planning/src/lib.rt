@@ -1,4 +1,6 @@
 // The planning call on a map and a book by value.
+#![tactic(auto)]
+
 ghost use Rattle.rules.specs.Answer.{PlanIs};
 
 use rules::{Book, Map, Planned};

@@ -1,4 +1,6 @@
 // The advisers' portal: map, book and answers as byte slices, for C or Rust to call.
+#![tactic(auto)]
+
 ghost use Rattle.std.specs.Prelude.{◌≡◌, ℕ, ◌≤◌, length};
 ghost use Rattle.laws.specs.Lists.{at};
 ghost use Rattle.rules.specs.Limits.{row_limit};

@@ -1,5 +1,7 @@
 // Plan and page on the small barn, with their rows written to lists of row records of different lengths: none, too short, exact and longer; and each
 // of their refusals.
+#![tactic(auto)]
+
 ghost use Rattle.std.specs.Prelude.{◌≡◌, ◌≤◌, take, drop};
 ghost use Rattle.laws.specs.Tests.{Decides};
 ghost use Rattle.rules.specs.Rows.{cursor_key};

@@ -1,5 +1,7 @@
 // What the barn's papers speak of: map, row, book, cursor and answers, each with its limits.
 // What they mean stands in specs/.
+#![tactic(auto)]
+
 ghost use Rattle.std.specs.Prelude.{◌≡◌};
 ghost use Rattle.rules.specs.Limits.{day, place_limit, capacity_limit, duration_limit, link_limit, row_limit, ticket_limit, plan_limit, page_limit};
 ghost use Rattle.rules.specs.Bytes.{place_size, link_size, row_size, row_line_size, list_size, answer_room};

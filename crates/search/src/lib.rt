@@ -1,4 +1,6 @@
 // The search for the earliest entry into the destination's windows, over lent arrays.
+#![tactic(auto)]
+
 ghost use Rattle.std.specs.Prelude.{◌≡◌, true, false, ℕ, ◌+◌, ◌-◌, ◌≤◌, ◌<◌, min, max, length};
 ghost use Rattle.laws.specs.Lists.{at};
 ghost use Rattle.flat.specs.Flat.{rows_in, yard_in};

@@ -1,4 +1,6 @@
 // Label setting over lent arrays: the choice of the next node through block minima.
+#![tactic(auto)]
+
 ghost use Rattle.std.specs.Prelude.{◌≡◌, ◌+◌, ◌*◌, ◌≤◌, ◌<◌, min, get_or, set};
 ghost use Rattle.settle.specs.Blocks.{low, Blocks, FirstLeast, Found, Picked, Offered};
 

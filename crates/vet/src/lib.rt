@@ -1,4 +1,6 @@
 // Map and book vetted together, as every call does first.
+#![tactic(auto)]
+
 ghost use Rattle.std.specs.Prelude.{◌≡◌, ℕ, length};
 ghost use Rattle.laws.specs.Lists.{at};
 ghost use Rattle.flat.specs.Flat.{papers_in, rows_in, Packed};

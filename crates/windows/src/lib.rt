@@ -1,4 +1,6 @@
 // All free windows of a book, by one sweep a place over the rows in key order.
+#![tactic(auto)]
+
 ghost use Rattle.std.specs.Prelude.{◌≡◌, ◌-◌, ◌≤◌, length};
 ghost use Rattle.rules.specs.Limits.{capacity_limit, row_limit};
 ghost use Rattle.flat.specs.Flat.{place_of, entry_of, span_at};
