@@ -45,12 +45,12 @@ module _ {Y : Yard} {B : List Row} {dest : ℕ} where
       meets = meets;
       goes = goes;
       lasts = lasts;
-      last_exact = λ i. elim i [ zero ↦ λ h. absurd (omega (arith, P.run.some)) | suc j ↦ λ h. P.run.last_exact j (omega arith) ];
-      last_exit = λ i. elim i [ zero ↦ λ h. absurd (omega (arith, P.run.some)) | suc j ↦ λ h. P.run.last_exit j (omega arith) ];
+      last_exact = last_exact;
+      last_exit = last_exit;
     };
     first_place = refl;
     first_entry = refl;
-    last_place = λ i. elim i [ zero ↦ λ h. absurd (omega (arith, P.run.some)) | suc j ↦ λ h. P.last_place j (omega arith) ];
+    last_place = last_place;
     room = room;
     exchange = exchange;
   }
@@ -74,6 +74,18 @@ module _ {Y : Yard} {B : List Row} {dest : ℕ} where
       lasts zero h = l
       lasts (suc i) h = P.run.lasts i (omega arith)
 
+      last_exact : (i : ℕ) → suc i ≡ length (x ∷ xs) → (stay_at (x ∷ xs) i).exit ≡ (stay_at (x ∷ xs) i).entry + Y.dur (stay_at (x ∷ xs) i).place
+      last_exact zero h = absurd (omega (arith, P.run.some))
+      last_exact (suc i) h = P.run.last_exact i (omega arith)
+
+      last_exit : (i : ℕ) → suc i ≡ length (x ∷ xs) → (stay_at (x ∷ xs) i).exit ≤ day
+      last_exit zero h = absurd (omega (arith, P.run.some))
+      last_exit (suc i) h = P.run.last_exit i (omega arith)
+
+      last_place : (i : ℕ) → suc i ≡ length (x ∷ xs) → (stay_at (x ∷ xs) i).place ≡ dest
+      last_place zero h = absurd (omega (arith, P.run.some))
+      last_place (suc i) h = P.last_place i (omega arith)
+
       exchange : (i : ℕ) → suc i < length (x ∷ xs) → Barred B (stay_at (x ∷ xs) i).place (stay_at (x ∷ xs) (suc i)).place (stay_at (x ∷ xs) i).exit → ⊥
       exchange zero h = rw P.first_place c
       exchange (suc i) h = P.exchange i (omega arith)
@@ -96,20 +108,43 @@ module _ {Y : Yard} {B : List Row} {dest : ℕ} where
   alone {t} m b d f = record {
     run = record {
       some = omega arith;
-      on_map = λ i. elim i [ zero ↦ λ h. m | suc j ↦ λ h. absurd (omega arith) ];
+      on_map = on_map;
       meets = λ i h. absurd (omega arith);
       goes = λ i h. absurd (omega arith);
-      lasts = λ i. elim i [ zero ↦ λ h. omega arith | suc j ↦ λ h. absurd (omega arith) ];
-      last_exact = λ i. elim i [ zero ↦ λ h. refl | suc j ↦ λ h. absurd (omega arith) ];
-      last_exit = λ i. elim i [ zero ↦ λ h. d | suc j ↦ λ h. absurd (omega arith) ];
+      lasts = lasts;
+      last_exact = last_exact;
+      last_exit = last_exit;
     };
     first_place = refl;
     first_entry = refl;
-    last_place = λ i. elim i [ zero ↦ λ h. refl | suc j ↦ λ h. absurd (omega arith) ];
+    last_place = last_place;
     room = room;
     exchange = λ i h. absurd (omega arith);
   }
     where
+      one : List Stay
+      one = record { place = dest; entry = t; exit = t + Y.dur dest } ∷ []
+
+      on_map : (i : ℕ) → i < length one → (stay_at one i).place < Y.places
+      on_map zero h = m
+      on_map (suc i) h = absurd (omega arith)
+
+      lasts : (i : ℕ) → i < length one → (stay_at one i).entry + Y.dur (stay_at one i).place ≤ (stay_at one i).exit
+      lasts zero h = omega arith
+      lasts (suc i) h = absurd (omega arith)
+
+      last_exact : (i : ℕ) → suc i ≡ length one → (stay_at one i).exit ≡ (stay_at one i).entry + Y.dur (stay_at one i).place
+      last_exact zero h = refl
+      last_exact (suc i) h = absurd (omega arith)
+
+      last_exit : (i : ℕ) → suc i ≡ length one → (stay_at one i).exit ≤ day
+      last_exit zero h = d
+      last_exit (suc i) h = absurd (omega arith)
+
+      last_place : (i : ℕ) → suc i ≡ length one → (stay_at one i).place ≡ dest
+      last_place zero h = refl
+      last_place (suc i) h = absurd (omega arith)
+
       room : (p u : ℕ) → p < Y.places → load B p u + held (record { place = dest; entry = t; exit = t + Y.dur dest } ∷ []) p u ≤ Y.cap p
       room p u h = ⊎_elim now later (true_or_false (covers dest t (t + Y.dur dest) p u))
         where

@@ -2,7 +2,8 @@
 use Prim.Native.Nat.{ℕ, zero, suc, ◌+◌, ◌≤◌, ◌<◌}
 use Rattle.std.specs.Prelude.{◌≡◌, refl, ◌⊎◌, true, List, length}
 use Rattle.std.proofs.Common.{sym, inl, inr}
-use Rattle.std.proofs.Math.Logic.{⊎_elim, Dec·and}
+use Rattle.std.proofs.Math.Logic.{⊎_elim}
+use Rattle.std.proofs.Math.Logic.Dec
 use Rattle.std.proofs.Math.Bool.{Bool-discrete}
 use native.Mathlib.Omega.{arith}
 use Rattle.std.proofs.Math.Decide.{dec_le, map_dec}
@@ -27,7 +28,7 @@ module _ (Y : Yard) (B : List Row) where
       map_dec
       (λ x. record { linked = x.0; after = x.1.0; before = x.1.1.0; from = x.1.1.1.0; fits = x.1.1.1.1.0; clear = x.1.1.1.1.1 })
       (λ k. (k.linked, (k.after, (k.before, (k.from, (k.fits, k.clear))))))
-      (Dec·and (Bool-discrete _ _) (Dec·and (dec_le _ _) (Dec·and (dec_le _ _) (Dec·and (dec_le _ _) (Dec·and (dec_le _ _) (map_dec (unbarred B _ _ _) (unbarredb B _ _ _) (Bool-discrete _ _)))))))
+      (Dec.and (Bool-discrete _ _) (Dec.and (dec_le _ _) (Dec.and (dec_le _ _) (Dec.and (dec_le _ _) (Dec.and (dec_le _ _) (map_dec (unbarred B _ _ _) (unbarredb B _ _ _) (Bool-discrete _ _)))))))
 
   -- the seconds that w, entered at e, allows into v: the least of them, or none
   pub steps : (w v : Span) (e : ℕ) → Least (Step Y B w v e) 0 (suc w.to) ⊎ NoneIn (Step Y B w v e) 0 (suc w.to)
