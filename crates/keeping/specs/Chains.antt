@@ -22,6 +22,7 @@ chain_from h (more e c) = more (less_trans h e) c
 pub chain_below : {k : Key} {x : Row} {l : List Row} → Chain k l → Memᴰ x l → Less k (row_key x)
 chain_below {k} (more e c) (Memᴰ.head p) = rw p e
 chain_below (more e c) (Memᴰ.tail m) = less_trans e (chain_below c m)
+chain_below (none {k = k}) m = elim m [ ]
 
 pub chain_take : {k : Key} {l : List Row} (n : ℕ) → Chain k l → Chain k (take n l)
 chain_take zero c = none
