@@ -279,7 +279,7 @@ fn marked_from(list: &[u8; ROOM], from: usize) -> bool {
 // ---- answers
 
 // The number, and beside it how many rows there are; at a refusal the row of the book that it names, or 0.
-#[derive(Drop)]
+#[derive(Clone, Copy)]
 struct Said {
     number: u8,
     count: usize,

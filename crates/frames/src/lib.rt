@@ -61,7 +61,7 @@ fn value(c: u8) -> u8
 }
 
 // The bytes of a line: none where the line is empty, too long, of odd length, or has another digit.
-#[derive(Drop)]
+#[derive(Clone, Copy)]
 struct Bytes {
     bytes: [u8; 9],
     count: usize,
@@ -111,7 +111,7 @@ fn bytes_of(l: Line) -> Bytes
 }
 
 // What reads a frame's bytes.
-#[derive(Drop)]
+#[derive(Clone, Copy)]
 enum Decoder {
     Place,
     Link,
@@ -123,7 +123,7 @@ enum Decoder {
 }
 
 // "What a line means goes by its first byte": the length of a frame of this kind, and its decoder.
-#[derive(Drop)]
+#[derive(Clone, Copy)]
 struct Form {
     length: usize,
     decoder: Decoder,
@@ -173,7 +173,7 @@ fn form_of(kind: u8) -> Form
 }
 
 // A line read: its bytes, and what reads them on.
-#[derive(Drop)]
+#[derive(Clone, Copy)]
 struct Word {
     bytes: [u8; 9],
     decoder: Decoder,
@@ -279,7 +279,7 @@ fn put_rows(list: &[u8], n: usize, at: usize, out: &mut [u8])
 }
 
 // The bytes of an answer's first line.
-#[derive(Drop)]
+#[derive(Clone, Copy)]
 struct Head {
     bytes: [u8; 9],
     count: usize,
@@ -607,7 +607,7 @@ fn order(s: State, w: Word, out: &mut [u8]) -> Told
 }
 
 // What a line that leaves map and book as they are answers, and whether the map is closed after it.
-#[derive(Drop)]
+#[derive(Clone, Copy)]
 struct Asked {
     len: usize,
     closed: bool,
@@ -680,7 +680,7 @@ pub fn answer(s: State, l: Line, out: &mut [u8]) -> Told
 // ---- input cut into lines
 
 // The line as far as the bytes reach: to its line feed, or to their end.
-#[derive(Drop)]
+#[derive(Clone, Copy)]
 struct Cut {
     line: Line,
     upto: usize,

@@ -9,7 +9,7 @@ use libc::{STDIN_FILENO, STDOUT_FILENO};
 use rules::Desk;
 
 // What stands after a read, and whether to read on.
-#[derive(Drop)]
+#[derive(Clone, Copy)]
 struct Turn {
     desk: Desk,
     on: bool,

@@ -22,7 +22,7 @@ pub fn empty_book() -> Book
     }
 }
 
-#[derive(Drop)]
+#[derive(Clone, Copy)]
 pub struct Removed {
     pub book: Book,
     pub count: usize,

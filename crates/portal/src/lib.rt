@@ -12,14 +12,14 @@ ghost use Rattle.portal.specs.Read.{MapRead, BookRead};
 use rules::{Book, Cursor, Paged, Place, Planned};
 
 // What stands before a map slice's places and links.
-#[derive(Drop)]
+#[derive(Clone, Copy)]
 struct MapHead {
     places: usize,
     links: usize,
 }
 
 // What stands before a book slice's rows.
-#[derive(Drop)]
+#[derive(Clone, Copy)]
 struct BookHead {
     count: usize,
     ticket: u32,

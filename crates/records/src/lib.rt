@@ -12,7 +12,7 @@ ghost use Rattle.records.specs.Found.{Lent, PlanFound, PageFound};
 use rules::{Book, Cursor, Map, Paged, Planned, Row, Trip};
 
 // A plan's rows, none where it is refused, and the answer.
-#[derive(Drop)]
+#[derive(Clone, Copy)]
 pub struct FoundPlan {
     pub rows: [Row; Trip::STAYS],
     pub count: usize,
@@ -20,7 +20,7 @@ pub struct FoundPlan {
 }
 
 // A page's rows, none where it is refused, and the answer.
-#[derive(Drop)]
+#[derive(Clone, Copy)]
 pub struct FoundPage {
     pub rows: [Row; Trip::STAYS],
     pub count: usize,

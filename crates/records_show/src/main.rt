@@ -10,13 +10,13 @@ ghost use Rattle.records_show.specs.Shown.{barn_map, marks, planned, paged, both
 
 use rules::{Book, Cursor, Link, Map, Paged, Place, Planned, Row};
 
-#[derive(Drop)]
+#[derive(Clone, Copy)]
 struct PlanShown {
     rows: [Row; 8],
     answer: Planned,
 }
 
-#[derive(Drop)]
+#[derive(Clone, Copy)]
 struct PageShown {
     rows: [Row; 8],
     answer: Paged,

@@ -8,13 +8,13 @@ ghost use Rattle.rules.specs.Bytes.{place_size, link_size, row_size, row_line_si
 ghost use Rattle.rules.specs.Rows.{row, no_row, cursor_key, row_key, first_key, lessb};
 ghost use Rattle.rules.specs.Answer.{number, fault_row, planned_number, planned_arrival, planned_rows, paged_number, paged_rows, paged_more};
 
-#[derive(Drop)]
+#[derive(Clone, Copy)]
 pub struct Place {
     pub capacity: u8,
     pub duration: u16,
 }
 
-#[derive(Drop)]
+#[derive(Clone, Copy)]
 pub struct Link {
     pub from: u8,
     pub to: u8,
@@ -30,7 +30,7 @@ impl Link {
     pub const BYTES: usize = 2;
 }
 
-#[derive(Drop)]
+#[derive(Clone, Copy)]
 pub struct Map {
     pub places: [Place; Map::PLACES],
     pub links: [Link; Map::LINKS],
@@ -50,7 +50,7 @@ impl Map {
     pub const DAY: u32 = 86400;
 }
 
-#[derive(Drop)]
+#[derive(Clone, Copy)]
 pub struct Row {
     pub place: u8,
     pub entry: u32,
@@ -93,7 +93,7 @@ impl Row {
     }
 }
 
-#[derive(Drop)]
+#[derive(Clone, Copy)]
 pub struct Book {
     pub rows: [Row; Book::ROWS],
     pub count: usize,
@@ -109,7 +109,7 @@ impl Book {
     pub const UNREAD: usize = Book::ROWS + 1;
 }
 
-#[derive(Drop)]
+#[derive(Clone, Copy)]
 pub struct Cursor {
     pub place: u32,
     pub entry: u32,
@@ -163,7 +163,7 @@ impl Cursor {
     }
 }
 
-#[derive(Drop)]
+#[derive(Clone, Copy)]
 pub enum Refusal {
     BadMap,
     BadBook,
@@ -233,7 +233,7 @@ impl Refusal {
     }
 }
 
-#[derive(Drop)]
+#[derive(Clone, Copy)]
 pub struct Trip {
     pub arrival: u32,
     pub count: usize,
@@ -244,7 +244,7 @@ impl Trip {
     pub const STAYS: usize = Map::PLACES + Book::ROWS;
 }
 
-#[derive(Drop)]
+#[derive(Clone, Copy)]
 pub enum Planned {
     Done(Trip),
     Refused(Refusal),
@@ -282,45 +282,45 @@ impl Planned {
     }
 }
 
-#[derive(Drop)]
+#[derive(Clone, Copy)]
 pub struct Issued {
     pub ticket: u32,
     pub arrival: u32,
     pub count: usize,
 }
 
-#[derive(Drop)]
+#[derive(Clone, Copy)]
 pub enum Booked {
     Done(Issued),
     Refused(Refusal),
 }
 
-#[derive(Drop)]
+#[derive(Clone, Copy)]
 pub struct Booking {
     pub book: Book,
     pub answer: Booked,
 }
 
-#[derive(Drop)]
+#[derive(Clone, Copy)]
 pub enum Cancelled {
     Done(usize),
     Refused(Refusal),
 }
 
-#[derive(Drop)]
+#[derive(Clone, Copy)]
 pub struct Cancelling {
     pub book: Book,
     pub answer: Cancelled,
 }
 
-#[derive(Drop)]
+#[derive(Clone, Copy)]
 pub struct Shown {
     pub count: usize,
     pub more: bool,
     pub cursor: Cursor,
 }
 
-#[derive(Drop)]
+#[derive(Clone, Copy)]
 pub enum Paged {
     Done(Shown),
     Refused(Refusal),
@@ -359,7 +359,7 @@ impl Paged {
 }
 
 // What `lanebook` keeps between frames.
-#[derive(Drop)]
+#[derive(Clone, Copy)]
 pub struct State {
     pub map: Map,
     pub book: Book,
@@ -367,28 +367,28 @@ pub struct State {
 }
 
 // The digits of a line, of which a frame has at most 18: len 19 stands for any longer line.
-#[derive(Drop)]
+#[derive(Clone, Copy)]
 pub struct Line {
     pub digits: [u8; 18],
     pub len: usize,
 }
 
 // The state after a line, and how many bytes of its answer are in the caller's list.
-#[derive(Drop)]
+#[derive(Clone, Copy)]
 pub struct Told {
     pub state: State,
     pub len: usize,
 }
 
 // What stands between two reads: the state, and the line that is begun.
-#[derive(Drop)]
+#[derive(Clone, Copy)]
 pub struct Desk {
     pub state: State,
     pub line: Line,
 }
 
 // How far the bytes are taken, and how many bytes of answers are in the caller's list.
-#[derive(Drop)]
+#[derive(Clone, Copy)]
 pub struct Intake {
     pub desk: Desk,
     pub upto: usize,
@@ -396,7 +396,7 @@ pub struct Intake {
 }
 
 // The limits above, which are those of the definitions.
-#[derive(Drop)]
+#[derive(Clone, Copy)]
 pub struct Limits {
     pub day: u32,
     pub places: usize,

@@ -10,7 +10,7 @@ ghost use Rattle.vet.specs.Vetted.{verdict_of, Vetted};
 use rules::Refusal;
 
 // How many free windows there are, or why map or book is refused.
-#[derive(Drop)]
+#[derive(Clone, Copy)]
 pub enum Verdict {
     Sound(usize),
     Refused(Refusal),

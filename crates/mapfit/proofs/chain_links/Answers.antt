@@ -1,0 +1,17 @@
+-- `mapfit::chain_links` meets its contract: a link goes to the front of its place's list, whose old front it then points to. After j turns the lists
+-- hold the first j links, so after k turns all of them.
+use Prim.Native.Nat.{◌-◌, ◌≤◌}
+use mathlib.Core.Path.{◌≡◌}
+use native.Mathlib.Omega.{arith}
+use borrow.Author.Rules.{rules}
+use Rattle.mapfit.specs.Walk.{Linking, linking_first, linking_turn}
+use Rattle.mapfit.proofs.chain_links.Goals as goal
+
+pub loop-j-init : goal.loop-j-init
+loop-j-init c =
+    (omega arith, linking_first _ _ _ c.requires.head_len c.requires.chain_len c.requires.by_index)
+
+pub loop-j-preserved : goal.loop-j-preserved
+loop-j-preserved c =
+    let l = c.loop-j in
+    (omega arith, linking_turn _ _ _ _ _ l.invariant.1 (omega arith) c.place_index-f.ensures.0 c.place_index-f.ensures.1)

@@ -1,0 +1,14 @@
+-- `mapfit::linked_by` meets its contract: the walk goes down the list of p, and no link passed goes to q. A link that goes there is the one looked
+-- for; at the list's end every link of p is passed. The link's number falls with each turn.
+use Prim.Native.Nat.{◌-◌}
+use mathlib.Core.Path.{◌≡◌}
+use native.Mathlib.Omega.{arith}
+use borrow.Author.Rules.{rules}
+use Rattle.mapfit.specs.Walk.{Walk, Elsewhere, head_within, chain_within, walk_first, walk_turn, linked_found, linked_nowhere}
+use Rattle.mapfit.proofs.linked_by.Given as goal
+
+abbrev pub invariant-loop-l : goal.invariant-loop-l
+invariant-loop-l l = Walk l.from l.p l.k l.l (Elsewhere l.to l.q)
+
+abbrev pub decreases-loop-l : goal.decreases-loop-l
+decreases-loop-l l = l.l

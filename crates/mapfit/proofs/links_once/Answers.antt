@@ -1,0 +1,24 @@
+-- `mapfit::links_once` meets its contract: the places below p have no two links to the same place, and no mark is above p, so that the walk of p can
+-- tell its own marks. With each link from a place below n, the places' links are all links.
+use Prim.Native.Nat.{◌-◌, ◌≤◌}
+use mathlib.Core.Path.{◌≡◌, refl}
+use native.Mathlib.Omega.{arith}
+use borrow.Author.Tests.{not-true, not-false}
+use borrow.Author.Rules.{rules}
+use Rattle.laws.specs.Tests.{not_both}
+use Rattle.mapfit.specs.Walk.{Walked, walked_first, walked_next, walked_all, once_from}
+use Rattle.mapfit.proofs.links_once.Goals as goal
+
+pub loop-p-init : goal.loop-p-init
+loop-p-init c =
+    (omega arith, walked_first _ _ _ 256 refl)
+
+pub loop-p-preserved : goal.loop-p-preserved
+loop-p-preserved c =
+    let l = c.loop-p in
+    (omega arith, walked_next _ _ _ _ _ _ _ l.invariant.1 c.place_once.ensures c.if-not-place_once.false)
+
+pub returns : goal.returns
+returns c =
+    let e : c.loop-p.p ≡ c.args.n = omega arith in
+    (λ _. walked_all _ _ _ _ _ (rw e at c.loop-p.invariant.1) c.requires.by_index, λ _. refl)
