@@ -1,0 +1,25 @@
+-- `flatten::read_book` meets its contract: after i turns of the first loop the book's first i rows stand in the arrays, and the second keeps them there and
+-- finds zeros from the count on. The first row out of range and the first used slot past the count are none of a well-formed book.
+use Prim.Native.Nat.{◌-◌, ◌≤◌}
+use mathlib.Core.Path.{◌≡◌}
+use native.Mathlib.Omega.{arith}
+use borrow.Author.Rules.{rules}
+use borrow.Author.Tests.{not-true, not-false}
+use lib.ListN.{length}
+use Rattle.laws.specs.Tests.{not_both}
+use Rattle.flatten.specs.Lists.{unmapped}
+use Rattle.flatten.specs.Books.{RowsTo, rows_none, rows_next, rows_all, rows_bad, rows_many, ZeroTo, zero_none, zero_next, spare_bad, spare_all}
+use Rattle.flatten.specs.Read.{read_all, read_none}
+use Rattle.flatten.proofs.read_book.Given as goal
+
+abbrev pub invariant-loop-i : goal.invariant-loop-i
+invariant-loop-i l = (l.i ≤ l.n) × RowsTo l.b l.key l.tail l.i
+
+abbrev pub decreases-loop-i : goal.decreases-loop-i
+decreases-loop-i l = l.n - l.i
+
+abbrev pub invariant-loop-i-2 : goal.invariant-loop-i-2
+invariant-loop-i-2 l = (l.i ≤ 1024) × ZeroTo l.b l.key l.tail l.i
+
+abbrev pub decreases-loop-i-2 : goal.decreases-loop-i-2
+decreases-loop-i-2 l = 1024 - l.i
