@@ -1,0 +1,17 @@
+-- Each row filed that follows row i and is not numbered below it is from c on along the chain: a row passed is numbered below, and the look for the next
+-- passes none that follows.
+use Prim.Native.Nat.{◌-◌, ◌≤◌}
+use mathlib.Core.Path.{refl}
+use native.Mathlib.Omega.{arith}
+use Rattle.laws.specs.Tests.{not_both}
+use Rattle.laws.specs.Lists.{at}
+use Rattle.flat.specs.Flat.{exit_of, next_value}
+use Rattle.bookfit.specs.Filed.{leave_slot_value, Ahead, ahead_next, NotBelow, none_ahead}
+use borrow.Author.Rules.{rules}
+use Rattle.bookfit.proofs.above_all.Given as goal
+
+abbrev pub invariant-loop-c : goal.invariant-loop-c
+invariant-loop-c l = (l.c ≤ 1024) × Ahead l.chain (NotBelow l.key l.tail l.rank l.i) (at l.head (leave_slot_value (next_value (at l.tail l.i)) (exit_of (at l.tail l.i)))) l.c
+
+abbrev pub decreases-loop-c : goal.decreases-loop-c
+decreases-loop-c l = l.c

@@ -1,0 +1,11 @@
+-- Where no two crossings follow each other none is on a ring; else the listed rows decide.
+use mathlib.Core.Path.{refl}
+use borrow.Author.Tests.{not-true}
+use Rattle.bookfit.specs.Ring.{unringed_unbarred}
+use borrow.Author.Rules.{rules}
+use Rattle.bookfit.proofs.exchange_kept.Goals as goal
+
+pub returns-then-not-linked : goal.returns-then-not-linked
+returns-then-not-linked c =
+    let a = c.args in
+    (λ _. unringed_unbarred a.key.now a.tail.now a.count (c.linked.ensures c.if-not-linked.true), λ _. refl)

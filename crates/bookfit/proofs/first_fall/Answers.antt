@@ -1,0 +1,17 @@
+-- The first i keys rise, and the next is compared with the last of them: where it is not above that, its row is the first at which keys do not rise.
+use Prim.Native.Nat.{◌-◌, ◌≤◌}
+use native.Mathlib.Omega.{arith}
+use Rattle.flat.specs.Flat.{KeysRise}
+use Rattle.bookfit.specs.Rows.{rise_start, rise_next, rise_to}
+use Rattle.bookfit.specs.Prefix.{falls_at, falls_nowhere}
+use borrow.Author.Rules.{rules}
+use Rattle.bookfit.proofs.first_fall.Goals as goal
+
+pub returns-then-key-i : goal.returns-then-key-i
+returns-then-key-i c =
+    let l = c.loop-i in
+    falls_at _ _ l.i (omega arith) (omega arith) l.invariant.1 (omega (arith, c.if-key-i.true))
+
+pub loop-i-preserved : goal.loop-i-preserved
+loop-i-preserved c =
+    (omega arith, rise_next _ _ (omega arith) c.loop-i.invariant.1 c.if-key-i.false)

@@ -1,0 +1,13 @@
+-- None of the rows passed is of ticket t; the first that is, is its first row.
+use Prim.Native.Nat.{◌-◌, ◌≤◌}
+use mathlib.Core.Path.{◌≡◌}
+use native.Mathlib.Omega.{arith}
+use Rattle.bookfit.specs.Least.{NoneOf, none_start, none_next, first_here, first_none}
+use borrow.Author.Rules.{rules}
+use Rattle.bookfit.proofs.first_of.Given as goal
+
+abbrev pub invariant-loop-j : goal.invariant-loop-j
+invariant-loop-j l = (l.j ≤ l.count) × NoneOf l.key l.j l.t
+
+abbrev pub decreases-loop-j : goal.decreases-loop-j
+decreases-loop-j l = l.count - l.j

@@ -1,0 +1,12 @@
+-- All stays in range, and each turn takes one from what is left: nothing else is claimed.
+use Prim.Native.Nat.{◌-◌, ◌<◌}
+use native.Mathlib.Omega.{arith}
+use Rattle.bookfit.specs.Filed.{Pile, pile_rank, pile_spot}
+use borrow.Author.Rules.{rules}
+use Rattle.bookfit.proofs.number_from.Given as goal
+
+abbrev pub invariant-loop-left : goal.invariant-loop-left
+invariant-loop-left l = (l.top < 1024) × Pile l.rank l.work l.spot
+
+abbrev pub decreases-loop-left : goal.decreases-loop-left
+decreases-loop-left l = l.left

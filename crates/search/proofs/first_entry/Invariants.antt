@@ -1,0 +1,16 @@
+-- `search::first_entry` meets its contract: every second passed is barred, so that the first that is not is the least.
+-- The seconds up to hi are left to look at.
+use Prim.Native.Nat.{◌+◌, ◌-◌}
+use native.Mathlib.Omega.{arith}
+use borrow.Author.Rules.{rules}
+use borrow.Author.Tests.{not-true, not-false}
+use Rattle.laws.specs.Tests.{not_both}
+use Rattle.flat.specs.Flat.{rows_in}
+use Rattle.search.specs.Entries.{Passed, passed_none, passed_more, passed_all, passed_to}
+use Rattle.search.proofs.first_entry.Given as goal
+
+abbrev pub invariant-window : goal.invariant-window
+invariant-window l = Passed (rows_in l.key l.tail l.n) l.q l.p l.lo l.t
+
+abbrev pub decreases-window : goal.decreases-window
+decreases-window l = l.hi + 1 - l.t

@@ -1,0 +1,14 @@
+-- `search::first_open` meets its contract: what lies before lo ends too soon and what lies from hi on ends late enough, since ends rise.
+use Prim.Native.Nat.{◌-◌}
+use mathlib.Core.Path.{◌≡◌}
+use native.Mathlib.Omega.{arith}
+use borrow.Author.Rules.{rules}
+use Rattle.laws.specs.Lists.{at}
+use Rattle.search.specs.Offers.{OpenFrom, open_start, open_more, open_less}
+use Rattle.search.proofs.first_open.Given as goal
+
+abbrev pub invariant-loop-lo : goal.invariant-loop-lo
+invariant-loop-lo l = OpenFrom l.end l.a l.b l.x l.lo l.hi
+
+abbrev pub decreases-loop-lo : goal.decreases-loop-lo
+decreases-loop-lo l = l.hi - l.lo

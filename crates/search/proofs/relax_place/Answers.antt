@@ -1,0 +1,30 @@
+-- `search::relax_place` meets its contract: windows that end too soon are passed over, each other one is tried, and where one starts too late so do
+-- all that come after it.
+use Prim.Native.Nat.{◌-◌, ◌<◌}
+use mathlib.Core.Path.{◌≡◌}
+use native.Mathlib.Omega.{arith}
+use borrow.Author.Rules.{rules}
+use Rattle.laws.specs.Lists.{at}
+use Rattle.flat.specs.Flat.{rows_in}
+use Rattle.search.specs.Offers.{Relaxing, offered_start, offered_next, offered_rest, ends_rise}
+use Rattle.search.proofs.relax_place.Goals as goal
+
+pub returns-then-from-leave : goal.returns-then-from-leave
+returns-then-from-leave c =
+    let l = c.loop-v in
+    (offered_rest c.requires.row1 l.invariant.from c.loop-v-test.true c.requires.labels.low c.if-from-leave.true l.invariant.offered, (l.invariant.labels, l.invariant.blocks))
+
+pub loop-v-preserved : goal.loop-v-preserved
+loop-v-preserved c =
+    let l = c.loop-v in
+    let t = c.loop-v-test.true in
+    let P = c.requires{-!-} in
+    let h : l.v < 1280 = omega (arith, P.1.0.1) in
+    record {
+      from = omega (arith, l.invariant.from);
+      to = omega arith;
+      offered = offered_next P.1.1.1.0 l.invariant.from t (omega (arith, l.invariant.labels.len_lab)) (omega (arith, l.invariant.blocks.len_op)) (omega (arith, l.invariant.labels.len_bef)) l.invariant.offered
+          (rw (← c.later-lo.ensures, ← c.sooner-hi.ensures) c.try_window.ensures.0);
+      labels = c.try_window.ensures.1.0;
+      blocks = c.try_window.ensures.1.1;
+    }

@@ -1,0 +1,17 @@
+-- `search::search` meets its contract. The invariant is the search's own (`Going`); a turn settles the open window of least entry, of those the first, and
+-- offers the way through it to every window; fewer windows are open after each turn. It may stop at the destination, since entries only rise.
+use mathlib.Core.Path.{sym, ◌∙◌}
+use native.Mathlib.Omega.{arith}
+use borrow.Author.Rules.{rules}
+use borrow.Author.Tests.{eq-eqb, ne_eqb}
+use Rattle.flat.specs.Flat.{rows_in, yard_in}
+use Rattle.settle.specs.Search.{Going, done_of, opens, going_start, going_none, going_goal, closed_above, going_less, going_turn, in_n, low_u}
+use Rattle.search.specs.Relax.{next_by}
+use Rattle.search.specs.Lanes.{is_at_dest, lanes_ground, lanes_kept, lanes_runs, lanes_mono, lanes_later}
+use Rattle.search.proofs.search.Given as goal
+
+abbrev pub invariant-loop-live : goal.invariant-loop-live
+invariant-loop-live l = Going l.windows (next_by (yard_in l.cap l.dur l.places l.from l.to l.links) (rows_in l.key l.tail l.n) l.place l.start l.end) (is_at_dest l.place l.dest) l.src l.s l.label l.live l.least l.before
+
+abbrev pub decreases-loop-live : goal.decreases-loop-live
+decreases-loop-live l = opens (done_of l.label l.live) l.windows
