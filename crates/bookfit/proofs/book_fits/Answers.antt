@@ -58,13 +58,7 @@ pub least_unfit-unfit-requires : goal.least_unfit-unfit-requires
 least_unfit-unfit-requires c =
     let a = c.args in
     let M = c.requires.map_rules in
-    {-tuple?-} (
-      omega (arith, c.if-count-gt-ROWS.false),
-      (
-        few_links a.cap.now a.dur.now a.n a.from.now a.to.now a.k M,
-        (c.requires.chained, (c.requires.packed, links_on a.cap.now a.dur.now a.n a.from.now a.to.now a.k M)),
-      ),
-    )
+    record { count_bound = omega (arith, c.if-count-gt-ROWS.false); k_bound = few_links a.cap.now a.dur.now a.n a.from.now a.to.now a.k M; chained = c.requires.chained; packed = c.requires.packed; on_map = links_on a.cap.now a.dur.now a.n a.from.now a.to.now a.k M }
 
 pub returns-then-unfit-eq-OUT_OF_RANGE : goal.returns-then-unfit-eq-OUT_OF_RANGE
 returns-then-unfit-eq-OUT_OF_RANGE c =
@@ -94,7 +88,7 @@ all_windows-w-requires c =
 pub first_overfull-i-requires : goal.first_overfull-i-requires
 first_overfull-i-requires c =
     let w = c.all_windows-w.ensures in
-    record { given = runs_given (running c); fact = (λ f. let o = w.overfull c.if-w-eq-NONE.true in omega (arith, o.3, f o.0 o.1 o.2), record { len_s = w.len_s; len_e = w.len_e; len_p = w.len_p; len_a = w.len_f }); lent =  }
+    record { given = runs_given (running c); fact = λ f. let o = w.overfull c.if-w-eq-NONE.true in omega (arith, o.3, f o.0 o.1 o.2); lent = record { len_s = w.len_s; len_e = w.len_e; len_p = w.len_p; len_a = w.len_f } }
 
 pub returns-then-w-eq-NONE : goal.returns-then-w-eq-NONE
 returns-then-w-eq-NONE c =

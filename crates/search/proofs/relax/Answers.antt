@@ -36,13 +36,7 @@ relax_link-requires c =
     let qn : q < a.places = G.to_on j jk in
     let h = group_place G.by_place a.w c.requires.w_lt_windows.0 in
     let e = ap (at a.dur.now) c.wide-here.ensures.0 in
-    {-tuple?-} (
-      (record { kept = c.requires.w_lt_windows.2; apart = λ z. G.apart j jk (z ∙ sym (l.invariant.leaves j ej)) }, omega (arith, G.windows, c.requires.w_lt_windows.0), omega (arith, c.requires.w_lt_windows.1, G.durs (at a.place.now a.w) h), G.in_day a.w c.requires.w_lt_windows.0),
-      (
-        (G.by_place.up q qn, omega (arith, group_end G.by_place (q + 1) (omega arith), G.windows), G.durs q qn),
-        (G.of_place q qn, (l.invariant.labels, l.invariant.blocks)),
-      ),
-    )
+    record { between = (record { kept = c.requires.w_lt_windows.2; apart = λ z. G.apart j jk (z ∙ sym (l.invariant.leaves j ej)) }, omega (arith, G.windows, c.requires.w_lt_windows.0), omega (arith, c.requires.w_lt_windows.1, G.durs (at a.place.now a.w) h), G.in_day a.w c.requires.w_lt_windows.0); q_bound = (G.by_place.up q qn, omega (arith, group_end G.by_place (q + 1) (omega arith), G.windows), G.durs q qn); row1 = G.of_place q qn; labels = l.invariant.labels; blocks = l.invariant.blocks }
 
 pub loop-cur-smaller : goal.loop-cur-smaller
 loop-cur-smaller c =

@@ -18,12 +18,12 @@ pub loop-v-preserved : goal.loop-v-preserved
 loop-v-preserved c =
     let l = c.loop-v in
     let t = c.loop-v-test.true in
-    let P = c.requires{-!-} in
-    let h : l.v < 1280 = omega (arith, P.1.0.1) in
+    let P = c.requires in
+    let h : l.v < 1280 = omega (arith, P.a_le_b.1) in
     record {
       from = omega (arith, l.invariant.from);
       to = omega arith;
-      offered = offered_next P.1.1.1.0 l.invariant.from t (omega (arith, l.invariant.labels.len_lab)) (omega (arith, l.invariant.blocks.len_op)) (omega (arith, l.invariant.labels.len_bef)) l.invariant.offered
+      offered = offered_next P.row1 l.invariant.from t (omega (arith, l.invariant.labels.len_lab)) (omega (arith, l.invariant.blocks.len_op)) (omega (arith, l.invariant.labels.len_bef)) l.invariant.offered
           (rw (← c.later-lo.ensures, ← c.sooner-hi.ensures) c.try_window.ensures.0);
       labels = c.try_window.ensures.1.0;
       blocks = c.try_window.ensures.1.1;

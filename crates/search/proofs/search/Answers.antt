@@ -12,59 +12,53 @@ use Rattle.search.proofs.search.Goals as goal
 
 pub loop-live-init : goal.loop-live-init
 loop-live-init c =
-    let P = c.requires{-!-} in
-    let L = P.0 in
-    going_start L.few P.1.0.0 P.1.0.1 (lanes_mono L) (lanes_later L) c.args.label.now c.args.before.now P.1.1.1.1.0 P.1.1.1.1.1 P.1.1.1.0 P.1.1.0
+    let P = c.requires in
+    let L = P.lanes in
+    going_start L.few P.src_lt_windows.0 P.src_lt_windows.1 (lanes_mono L) (lanes_later L) c.args.label.now c.args.before.now P.label_len.0 P.label_len.1 P.src_value P.by_index
 
 pub returns-then-w-ge1280 : goal.returns-then-w-ge1280
 returns-then-w-ge1280 c =
     let p = c.pick-w in
     let g = c.loop-live.invariant in
-    let P = c.requires{-!-} in
-    let L = P.0 in
-    going_none L.few P.1.0.0 P.1.0.1 (lanes_mono L) (lanes_later L) g (omega arith) p.ensures (omega (arith, p.ensures.within, c.if-w-ge1280.true))
+    let P = c.requires in
+    let L = P.lanes in
+    going_none L.few P.src_lt_windows.0 P.src_lt_windows.1 (lanes_mono L) (lanes_later L) g (omega arith) p.ensures (omega (arith, p.ensures.within, c.if-w-ge1280.true))
 
 pub returns-then-wide-dest : goal.returns-then-wide-dest
 returns-then-wide-dest c =
     let p = c.pick-w in
     let g = c.loop-live.invariant in
-    let P = c.requires{-!-} in
-    let L = P.0 in
-    going_goal L.few P.1.0.0 P.1.0.1 (lanes_mono L) (lanes_later L) g (omega arith) p.ensures c.if-w-ge1280.false (eq-eqb _ _ (sym c.wide.ensures.0 ∙ c.if-wide-dest.true))
+    let P = c.requires in
+    let L = P.lanes in
+    going_goal L.few P.src_lt_windows.0 P.src_lt_windows.1 (lanes_mono L) (lanes_later L) g (omega arith) p.ensures c.if-w-ge1280.false (eq-eqb _ _ (sym c.wide.ensures.0 ∙ c.if-wide-dest.true))
 
 pub relax-requires : goal.relax-requires
 relax-requires c =
     let p = c.pick-w in
     let g = c.loop-live.invariant in
-    let P = c.requires{-!-} in
-    let L = P.0 in
+    let P = c.requires in
+    let L = P.lanes in
     let k = c.if-w-ge1280.false in
     let e = c.close.ensures in
-    {-tuple?-} (
-      lanes_ground L,
-      (
-        (in_n L.few P.1.0.0 P.1.0.1 (lanes_mono L) (lanes_later L) g (omega arith) p.ensures k, omega (arith, low_u L.few P.1.0.0 P.1.0.1 (lanes_mono L) (lanes_later L) g (omega arith) p.ensures k), lanes_kept L),
-        (record { low = g.below; above = closed_above L.few P.1.0.0 P.1.0.1 (lanes_mono L) (lanes_later L) g (omega arith) p.ensures k e.0; len_lab = g.len_lab; len_bef = g.len_bef }, e.1),
-      ),
-    )
+    record { ground = lanes_ground L; w_lt_windows = (in_n L.few P.src_lt_windows.0 P.src_lt_windows.1 (lanes_mono L) (lanes_later L) g (omega arith) p.ensures k, omega (arith, low_u L.few P.src_lt_windows.0 P.src_lt_windows.1 (lanes_mono L) (lanes_later L) g (omega arith) p.ensures k), lanes_kept L); labels = record { low = g.below; above = closed_above L.few P.src_lt_windows.0 P.src_lt_windows.1 (lanes_mono L) (lanes_later L) g (omega arith) p.ensures k e.0; len_lab = g.len_lab; len_bef = g.len_bef }; blocks = e.1 }
 
 pub loop-live-smaller : goal.loop-live-smaller
 loop-live-smaller c =
     let p = c.pick-w in
     let g = c.loop-live.invariant in
-    let P = c.requires{-!-} in
-    let L = P.0 in
+    let P = c.requires in
+    let L = P.lanes in
     let k = c.if-w-ge1280.false in
     let e = c.close.ensures in
-    going_less L.few P.1.0.0 P.1.0.1 (lanes_mono L) (lanes_later L) g (omega arith) p.ensures k e.0 (c.relax.ensures.0.through _ (lanes_runs L))
+    going_less L.few P.src_lt_windows.0 P.src_lt_windows.1 (lanes_mono L) (lanes_later L) g (omega arith) p.ensures k e.0 (c.relax.ensures.0.through _ (lanes_runs L))
 
 pub loop-live-preserved : goal.loop-live-preserved
 loop-live-preserved c =
     let p = c.pick-w in
     let g = c.loop-live.invariant in
-    let P = c.requires{-!-} in
-    let L = P.0 in
+    let P = c.requires in
+    let L = P.lanes in
     let k = c.if-w-ge1280.false in
     let e = c.close.ensures in
-    going_turn L.few P.1.0.0 P.1.0.1 (lanes_mono L) (lanes_later L) g (omega arith) p.ensures k e.0 (c.relax.ensures.0.through _ (lanes_runs L))
+    going_turn L.few P.src_lt_windows.0 P.src_lt_windows.1 (lanes_mono L) (lanes_later L) g (omega arith) p.ensures k e.0 (c.relax.ensures.0.through _ (lanes_runs L))
     (ne_eqb _ _ (λ z. c.if-wide-dest.false (c.wide.ensures.0 ∙ z))) c.relax.ensures.1.1
