@@ -9,38 +9,29 @@ use Rattle.bookfit.specs.Formed.{Numbered, Ordered, RunsIn, Running, runs_given,
 use Rattle.bookfit.specs.Answer.{few_links, links_on, book_many, book_ticket, book_out, book_falls, book_broken, book_overfull, book_barred, book_good}
 use borrow.Author.Rules.{rules}
 use Rattle.bookfit.proofs.book_fits.Goals as goal
+use Rattle.bookfit.proofs.book_fits.Goals.{Else-unfit-eq-OUT_OF_RANGE, Else-falls-gt0, After-first_broken-broken, Else-broken-gt0}
 
 -- past each check, what is known of the book
-abbrev Book : tie.Start → (List ℕ → List ℕ → ℕ → List ℕ → List ℕ → ℕ → List ℕ → List ℕ → ℕ → ℕ → Type 0) → Type 0
-Book s Known =
-    let a = s.args in
-    Known a.cap.now a.dur.now a.n a.from.now a.to.now a.k a.key.now a.tail.now a.count a.next-ticket
-
-
-numbered : (c : tie.Else4) → Book c.before.before.before.before.before Numbered
+numbered : (c : Else-unfit-eq-OUT_OF_RANGE) → Numbered c.args.cap.now c.args.dur.now c.args.n c.args.from.now c.args.to.now c.args.k c.args.key.now c.args.tail.now c.args.count c.args.next_ticket
 numbered c = record {
-  rules = c.before.before.before.before.before.requires.0;
-  few = omega (arith, c.before.before.before.before.if1.false);
-  ticket_from = omega (arith, c.before.before.before.if2.false);
-  ticket_to = omega (arith, c.before.before.if3.false);
-  within = c.before.least-unfit.ensures.within c.if4.false;
+  rules = c.requires.map_rules;
+  few = omega (arith, c.if-count-gt-ROWS.false);
+  ticket_from = omega (arith, c.if-next_ticket-lt1.false);
+  ticket_to = omega (arith, c.if-next_ticket-gt-TICKETS.false);
+  within = c.least_unfit-unfit.ensures.within c.if-unfit-eq-OUT_OF_RANGE.false;
 }
 
+ordered : (c : Else-falls-gt0) → Ordered c.args.cap.now c.args.dur.now c.args.n c.args.from.now c.args.to.now c.args.k c.args.key.now c.args.tail.now c.args.count c.args.next_ticket
+ordered c = record { numbered = numbered (goal.at.Else-falls-gt0 c).Else-unfit-eq-OUT_OF_RANGE; rises = c.first_fall-falls.ensures.rises (omega (arith, c.if-falls-gt0.false)) }
 
-ordered : (c : tie.Else5) → Book c.before.before.before.before.before.before.before Ordered
-ordered c = record { numbered = numbered c.before.before; rises = c.before.first-fall.ensures.rises (omega (arith, c.if5.false)) }
+lowest : (c : After-first_broken-broken) → LowestRow (RunsIn c.args.dur.now c.args.n c.args.from.now c.args.to.now c.args.k c.args.key.now c.args.tail.now c.args.count) c.args.key.now c.args.count c.first_broken-broken.result
+lowest c = c.first_broken-broken.ensures c.args.n c.args.k c.args.dur.now c.args.from.now c.args.to.now (c.least_unfit-unfit.ensures.lowest c.if-unfit-eq-OUT_OF_RANGE.false)
 
-
-lowest : (c : tie.After-first-broken)
-    → Book c.before.before.before.before.before.before.before.before (λ C D n F T k K X count t. LowestRow (RunsIn D n F T k K X count) K count c.first-broken.result)
-lowest c =
-    let a = c.before.before.before.before.before.before.before.before.args in
-    let u = c.before.before.before.before.least-unfit.ensures in
-    c.first-broken.ensures a.n a.k a.dur.now a.from.now a.to.now (u.lowest c.before.before.before.if4.false)
-
-
-running : (c : tie.Else6) → Book c.before.before.before.before.before.before.before.before.before Running
-running c = record { ordered = ordered c.before.before; runs = (lowest c.before).fine (omega (arith, c.if6.false)) }
+running : (c : Else-broken-gt0) → Running c.args.cap.now c.args.dur.now c.args.n c.args.from.now c.args.to.now c.args.k c.args.key.now c.args.tail.now c.args.count c.args.next_ticket
+running c = record {
+  ordered = ordered (goal.at.Else-broken-gt0 c).Else-falls-gt0;
+  runs = (lowest (goal.at.Else-broken-gt0 c).After-first_broken-broken).fine (omega (arith, c.if-broken-gt0.false));
+}
 
 pub returns-then-count-gt-ROWS : goal.returns-then-count-gt-ROWS
 returns-then-count-gt-ROWS c =
@@ -66,48 +57,48 @@ returns-then-unfit-eq-OUT_OF_RANGE c =
 
 pub fault-requires-then-falls-gt0 : goal.fault-requires-then-falls-gt0
 fault-requires-then-falls-gt0 c =
-    (omega arith, omega (arith, (c.first_fall-falls.ensures.falls c.if-falls-gt0.true []).within, (numbered c).few))
+    (omega arith, omega (arith, (c.first_fall-falls.ensures.falls c.if-falls-gt0.true []).within, (numbered (goal.at.fault-requires-then-falls-gt0 c).Else-unfit-eq-OUT_OF_RANGE).few))
 
 pub returns-then-falls-gt0 : goal.returns-then-falls-gt0
 returns-then-falls-gt0 c =
-    book_falls (numbered c) c.fault-then-falls-gt0.ensures c.first_fall-falls.ensures c.if-falls-gt0.true
+    book_falls (numbered (goal.at.returns-then-falls-gt0 c).Else-unfit-eq-OUT_OF_RANGE) c.fault-then-falls-gt0.ensures c.first_fall-falls.ensures c.if-falls-gt0.true
 
 pub fault-requires-then-broken-gt0 : goal.fault-requires-then-broken-gt0
 fault-requires-then-broken-gt0 c =
-    (omega arith, omega (arith, (ordered c).numbered.few, (lowest c).bound))
+    (omega arith, omega (arith, (ordered (goal.at.fault-requires-then-broken-gt0 c).Else-falls-gt0).numbered.few, (lowest (goal.at.fault-requires-then-broken-gt0 c).After-first_broken-broken).bound))
 
 pub returns-then-broken-gt0 : goal.returns-then-broken-gt0
 returns-then-broken-gt0 c =
-    book_broken (ordered c) c.fault-then-broken-gt0.ensures (lowest c) c.if-broken-gt0.true
+    book_broken (ordered (goal.at.returns-then-broken-gt0 c).Else-falls-gt0) c.fault-then-broken-gt0.ensures (lowest (goal.at.returns-then-broken-gt0 c).After-first_broken-broken) c.if-broken-gt0.true
 
 pub all_windows-w-requires : goal.all_windows-w-requires
 all_windows-w-requires c =
     let l = c.requires.lent in
-    record { given = runs_given (running c); start_len = l.len_s; end_len = l.len_e; place_len = l.len_p; first_len = l.len_a }
+    record { given = runs_given (running (goal.at.all_windows-w-requires c).Else-broken-gt0); start_len = l.len_s; end_len = l.len_e; place_len = l.len_p; first_len = l.len_a }
 
 pub first_overfull-i-requires : goal.first_overfull-i-requires
 first_overfull-i-requires c =
     let w = c.all_windows-w.ensures in
-    record { given = runs_given (running c); fact = λ f. let o = w.overfull c.if-w-eq-NONE.true in omega (arith, o.3, f o.0 o.1 o.2); lent = record { len_s = w.len_s; len_e = w.len_e; len_p = w.len_p; len_a = w.len_f } }
+    record { given = runs_given (running (goal.at.first_overfull-i-requires c).Else-broken-gt0); fact = λ f. let o = w.overfull c.if-w-eq-NONE.true in omega (arith, o.3, f o.0 o.1 o.2); lent = record { len_s = w.len_s; len_e = w.len_e; len_p = w.len_p; len_a = w.len_f } }
 
 pub returns-then-w-eq-NONE : goal.returns-then-w-eq-NONE
 returns-then-w-eq-NONE c =
-    book_overfull (running c) c.fault-then-w-eq-NONE.ensures c.first_overfull-i.ensures
+    book_overfull (running (goal.at.returns-then-w-eq-NONE c).Else-broken-gt0) c.fault-then-w-eq-NONE.ensures c.first_overfull-i.ensures
 
 pub exchange_kept-requires : goal.exchange_kept-requires
 exchange_kept-requires c =
-    runs_by_place (running c) c.requires.packed
+    runs_by_place (running (goal.at.exchange_kept-requires c).Else-broken-gt0) c.requires.packed
 
 pub first_barred-i-requires : goal.first_barred-i-requires
 first_barred-i-requires c =
-    record { by_place = runs_by_place (running c) c.requires.packed; fact = λ B. not_both (c.exchange_kept.ensures.1 B) c.if-not-exchange_kept.true }
+    record { by_place = runs_by_place (running (goal.at.first_barred-i-requires c).Else-broken-gt0) c.requires.packed; fact = λ B. not_both (c.exchange_kept.ensures.1 B) c.if-not-exchange_kept.true }
 
 pub returns-then-not-exchange_kept : goal.returns-then-not-exchange_kept
 returns-then-not-exchange_kept c =
     let w = c.all_windows-w.ensures in
-    book_barred (running c) (w.fits (omega (arith, w.bound, c.if-w-eq-NONE.false))) c.fault-then-not-exchange_kept.ensures c.first_barred-i.ensures
+    book_barred (running (goal.at.returns-then-not-exchange_kept c).Else-broken-gt0) (w.fits (omega (arith, w.bound, c.if-w-eq-NONE.false))) c.fault-then-not-exchange_kept.ensures c.first_barred-i.ensures
 
 pub returns : goal.returns
 returns c =
     let w = c.all_windows-w.ensures in
-    book_good (running c) w (omega (arith, w.bound, c.if-w-eq-NONE.false)) (c.exchange_kept.ensures.0 c.if-not-exchange_kept.false)
+    book_good (running (goal.at.returns c).Else-broken-gt0) w (omega (arith, w.bound, c.if-w-eq-NONE.false)) (c.exchange_kept.ensures.0 c.if-not-exchange_kept.false)

@@ -8,7 +8,10 @@ use mathlib.Core.Logic.{⊎_elim}
 use Rattle.laws.specs.Lists.{at}
 use Rattle.bookfit.specs.Marks.{Takes, takes_start, takes_last, takes_none, takes_taken, takes_free, goes_by, last_by, spot_as}
 use borrow.Author.Rules.{rules}
+use mathlib.Core.Path.{ap}
+use mathlib.Core.Bool.{not}
 use Rattle.bookfit.proofs.least_astray.Goals as goal
+use Rattle.bookfit.proofs.least_astray.Goals.{then-not-is_last+then-j-count, then-not-is_last+else-j-count+then-taken-j, then-not-is_last+else-j-count+else-taken-j, else-not-is_last}
 
 pub loop-i-init : goal.loop-i-init
 loop-i-init c =
@@ -21,11 +24,12 @@ loop-i-preserved c =
     let X = at c.args.tail.now in
     let n = c.args.count in
     let q = c.is_last.ensures in
-    ⊎_elim
-    (λ w. rw (w.5, w.6) (omega arith, takes_none K X n l.i l.invariant.1 (goes_by _ _ _ q w.0.taken) w.2.result (spot_as _ _ _ _ _ w.1.ensures.0 w.2.ensures) w.3.taken w.4.ensures))
-    (⊎_elim
-    (λ w. rw (w.6, w.7) (omega arith, takes_taken K X n l.i l.invariant.1 (goes_by _ _ _ q w.0.taken) w.2.result (spot_as _ _ _ _ _ w.1.ensures.0 w.2.ensures) c.requires.keys_rise.rise w.3.left w.4.taken w.5.ensures))
-    (⊎_elim
-    (λ w. rw (w.5, w.6) (omega arith, takes_free K X n l.i l.invariant.1 (goes_by _ _ _ q w.0.taken) w.2.result (spot_as _ _ _ _ _ w.1.ensures.0 w.2.ensures) c.requires.keys_rise.rise w.3.left c.requires.count_bound w.4.left))
-    (λ w. rw (w.1, w.2) (omega arith, takes_last K X n l.i l.invariant.1 (last_by _ _ _ q w.0.left)))))
-    c.if-not-is_last.branch
+    elim c.if-not-is_last.branch [
+      then-not-is_last+then-j-count w ↦
+        rw (w.taken-is, w.low-is) (omega arith, takes_none K X n l.i l.invariant.1 (goes_by _ _ _ q (ap not w.if-not-is_last.true)) w.hinted-j.result (spot_as _ _ _ _ _ w.next_key.ensures.0 w.hinted-j.ensures) w.if-j-count.true w.least-low.ensures)
+      | then-not-is_last+else-j-count+then-taken-j w ↦
+        rw (w.taken-is, w.low-is) (omega arith, takes_taken K X n l.i l.invariant.1 (goes_by _ _ _ q (ap not w.if-not-is_last.true)) w.hinted-j.result (spot_as _ _ _ _ _ w.next_key.ensures.0 w.hinted-j.ensures) c.requires.keys_rise.rise w.if-j-count.false w.if-taken-j.true w.least-low-then-taken-j.ensures)
+      | then-not-is_last+else-j-count+else-taken-j w ↦
+        rw (w.taken-is, w.low-is) (omega arith, takes_free K X n l.i l.invariant.1 (goes_by _ _ _ q (ap not w.if-not-is_last.true)) w.hinted-j.result (spot_as _ _ _ _ _ w.next_key.ensures.0 w.hinted-j.ensures) c.requires.keys_rise.rise w.if-j-count.false c.requires.count_bound w.if-taken-j.false)
+      | else-not-is_last w ↦ rw (w.taken-is, w.low-is) (omega arith, takes_last K X n l.i l.invariant.1 (last_by _ _ _ q (ap not w.if-not-is_last.false)))
+    ]

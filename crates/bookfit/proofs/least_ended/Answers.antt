@@ -10,6 +10,7 @@ use Rattle.laws.specs.Lists.{at}
 use Rattle.bookfit.specs.Marks.{Ended, ended_start, ended_not, ended_again, ended_first}
 use borrow.Author.Rules.{rules}
 use Rattle.bookfit.proofs.least_ended.Goals as goal
+use Rattle.bookfit.proofs.least_ended.Goals.{then-is_last, then-last_met, else-last_met, else-is_last}
 
 pub loop-i-preserved : goal.loop-i-preserved
 loop-i-preserved c =
@@ -17,13 +18,13 @@ loop-i-preserved c =
     let K = at c.args.key.now in
     let X = at c.args.tail.now in
     let q = c.is_last.ensures in
-    ⊎_elim
-    (λ w. rw (w.4, w.5) (
-      omega arith,
-      ⊎_elim
-          (λ v. rw v.2 (ended_again K X l.i l.invariant.1 (eqb-true _ _ (sym q ∙ w.0.taken)) w.1.result w.1.ensures.0 w.1.ensures.1 (w.2.ensures.0 v.0.taken) v.1.ensures))
-          (λ v. rw v.1 (ended_first K X l.i l.invariant.1 (eqb-true _ _ (sym q ∙ w.0.taken)) w.1.result w.1.ensures.0 w.1.ensures.1 (λ t b. not_both (w.2.ensures.1 t b) v.0.left)))
-          w.3.came,
-    ))
-    (λ w. rw (w.1, w.2) (omega arith, ended_not K X l.i l.invariant.1 (λ e. not_both (q ∙ eq-eqb _ _ e) w.0.left)))
-    c.if-is_last.branch
+    elim c.if-is_last.branch [
+      then-is_last w ↦ rw (w.seen-is, w.low-is) (
+        omega arith,
+        elim w.if-last_met.branch [
+          then-last_met v ↦ rw v.low-is (ended_again K X l.i l.invariant.1 (eqb-true _ _ (sym q ∙ w.if-is_last.true)) w.slot_of-h.result w.slot_of-h.ensures.0 w.slot_of-h.ensures.1 (w.last_met.ensures.0 v.if-last_met.true) v.least-low.ensures)
+          | else-last_met v ↦ rw v.low-is (ended_first K X l.i l.invariant.1 (eqb-true _ _ (sym q ∙ w.if-is_last.true)) w.slot_of-h.result w.slot_of-h.ensures.0 w.slot_of-h.ensures.1 (λ t b. not_both (w.last_met.ensures.1 t b) v.if-last_met.false))
+        ],
+      )
+      | else-is_last w ↦ rw (w.seen-is, w.low-is) (omega arith, ended_not K X l.i l.invariant.1 (λ e. not_both (q ∙ eq-eqb _ _ e) w.if-is_last.false))
+    ]

@@ -10,13 +10,15 @@ use borrow.Author.Tests.{not-true, not-false}
 use Rattle.laws.specs.Tests.{not_both}
 use borrow.Author.Rules.{rules}
 use Rattle.bookfit.proofs.least_unfit.Goals as goal
+use Rattle.bookfit.proofs.least_unfit.Goals.{then-not-row_fits+else-not-in_range, else-not-row_fits}
 
 pub loop-i-preserved : goal.loop-i-preserved
 loop-i-preserved c =
     let l = c.loop-i in
     let T = c.ticket_fits.ensures.0 c.if-not-ticket_fits.false in
     let f = c.row_fits in
-    ⊎_elim
-    (λ w. rw w.4 (omega arith, unfit_lower _ _ _ _ _ _ l.invariant.1 T (w.1.ensures.0 (not-false _ w.2.left)) (λ z. not_both (f.ensures.1 z) (not-true f.result w.0.taken)) w.3.ensures))
-    (λ w. rw w.1 (omega arith, unfit_fits _ _ _ _ _ _ l.invariant.1 c.requires.on_map T (f.ensures.0 (not-false f.result w.0.left))))
-    c.if-not-row_fits.branch
+    elim c.if-not-row_fits.branch [
+      then-not-row_fits+else-not-in_range w ↦
+        rw w.low-is (omega arith, unfit_lower _ _ _ _ _ _ l.invariant.1 T (w.in_range.ensures.0 w.if-not-in_range.false) (λ z. not_both (f.ensures.1 z) w.if-not-row_fits.true) w.least-low.ensures)
+      | else-not-row_fits w ↦ rw w.low-is (omega arith, unfit_fits _ _ _ _ _ _ l.invariant.1 c.requires.on_map T (f.ensures.0 w.if-not-row_fits.false))
+    ]

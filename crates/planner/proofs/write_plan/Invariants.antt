@@ -1,0 +1,15 @@
+-- `planner::write_plan` meets its contract: after j turns the first j rows stand at the front of the list and the rest is as it was.
+use Prim.Native.Nat.{◌-◌}
+use native.Mathlib.Omega.{arith}
+use lib.ListN.{take}
+use borrow.Author.Rules.{rules}
+use Rattle.rules.specs.Plan.{run_rows}
+use Rattle.planner.specs.Choice.{plan_of}
+use Rattle.planner.specs.Route.{Writing, writing_start, writing_next, writing_end, path_rows}
+use Rattle.planner.proofs.write_plan.Given as goal
+
+abbrev pub invariant-loop-j : goal.invariant-loop-j
+invariant-loop-j l = Writing (run_rows 0 (plan_of l.dur l.place l.label (take l.count l.path))) l.initial.out l.count l.j l.out
+
+abbrev pub decreases-loop-j : goal.decreases-loop-j
+decreases-loop-j l = l.count - l.j
