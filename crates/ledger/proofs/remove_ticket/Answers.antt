@@ -13,46 +13,48 @@ use Rattle.rules.specs.Book.{other_ticket}
 use Rattle.ledger.specs.Lists.{unmapped}
 use Rattle.ledger.specs.Remove.{Kept, kept_none, kept_le, kept_next, kept_same, kept_book, kept_count}
 use Rattle.ledger.proofs.remove_ticket.Goals as goal
-
-long : (s : tie.Start invariant-loop decreases-loop) → length s.args.t1.rows ≡ 1024
-long s = search (unmapped, rules)
-
+use Rattle.ledger.proofs.remove_ticket.Goals.{At-loop-i, then-x-ticket, else-x-ticket}
 
 -- no more rows are kept than looked at
-few : (c : tie.At-loop invariant-loop decreases-loop) → c.loop.auto ≤ c.loop.i
-few c = let s = c.before.before in kept_le (other_ticket s.args.ticket) c.loop.invariant.1 (omega (arith, long s))
+few : (c : At-loop-i) → c.loop-i.kept ≤ c.loop-i.i
+few c =
+    let n : length c.args.b.rows ≡ 1024 = search (unmapped, rules) in
+    kept_le (other_ticket c.args.ticket) c.loop-i.invariant.1 (omega (arith, n))
 
 pub offset_bounds-out-kept : goal.offset_bounds-out-kept
 offset_bounds-out-kept c =
-    omega (arith, few c)
+    omega (arith, few (goal.at.offset_bounds-out-kept c).At-loop-i)
 
 pub bounds-out-kept : goal.bounds-out-kept
 bounds-out-kept c =
-    omega (arith, few c)
+    omega (arith, few (goal.at.bounds-out-kept c).At-loop-i)
 
 pub overflow_add-kept : goal.overflow_add-kept
 overflow_add-kept c =
-    omega (arith, few c)
+    omega (arith, few (goal.at.overflow_add-kept c).At-loop-i)
 
 pub loop-i-preserved : goal.loop-i-preserved
 loop-i-preserved c =
     let F = other_ticket c.args.ticket in
     let K = c.loop-i.invariant.1 in
-    let h : c.loop-i.i < length c.args.t1.rows = omega (arith, long s) in
+    let n : length c.args.b.rows ≡ 1024 = search (unmapped, rules) in
+    let h : c.loop-i.i < length c.args.b.rows = omega (arith, n) in
     (
       omega arith,
-      ⊎_elim (λ w. kept_next F K h (omega arith) (ap not (ne_eqb _ _ w.0.taken)) (ap (λ (x : Book). x.rows) w.1) w.2)
-          (λ w. kept_same F K h (ap not (eq-eqb _ _ w.0.left)) (ap (λ (x : Book). x.rows) w.1) w.2)
-          c.if-x-ticket.branch,
+      elim c.if-x-ticket.branch [
+        then-x-ticket w ↦ kept_next F K h (omega arith) (ap not (ne_eqb _ _ w.if-x-ticket.true)) (ap (λ (x : Book). x.rows) w.out-is) w.kept-is
+        | else-x-ticket w ↦ kept_same F K h (ap not (eq-eqb _ _ w.if-x-ticket.false)) (ap (λ (x : Book). x.rows) w.out-is) w.kept-is
+      ],
     )
 
 pub overflow_sub-result : goal.overflow_sub-result
 overflow_sub-result c =
-    omega (arith, few c)
+    omega (arith, few (goal.at.overflow_sub-result c).At-loop-i)
 
 pub returns : goal.returns
 returns c =
-    let b = c.args.t1 in
+    let b = c.args.b in
+    let n : length b.rows ≡ 1024 = search (unmapped, rules) in
     let all : c.loop-i.i ≡ b.count = omega arith in
-    let K : Kept (other_ticket c.args.ticket) b.rows c.loop-i.out.rows c.loop-i.auto b.count = rw all at c.loop-i.invariant.1 in
-    (kept_book c.args.ticket b c.loop-i.out c.loop-i.auto (long s) c.requires K, kept_count c.args.ticket b c.loop-i.out c.loop-i.auto (long s) c.requires K)
+    let K : Kept (other_ticket c.args.ticket) b.rows c.loop-i.out.rows c.loop-i.kept b.count = rw all at c.loop-i.invariant.1 in
+    (kept_book c.args.ticket b c.loop-i.out c.loop-i.kept n c.requires K, kept_count c.args.ticket b c.loop-i.out c.loop-i.kept n c.requires K)
