@@ -42,10 +42,15 @@ pub record OnDay (m : ℕ) (lab path : List ℕ) : Type 0 where
   pub label : (i : ℕ) → i < length path → at lab (at path i) < 86401
 
 day_cons : {m v : ℕ} {lab path : List ℕ} → v < m → at lab v < 86401 → OnDay m lab path → OnDay m lab (v ∷ path)
-day_cons {m} {v} {lab} {path} h k g = record {
-  window = λ i. elim i [ zero ↦ λ x. h | suc j ↦ λ x. g.window j (omega arith) ];
-  label = λ i. elim i [ zero ↦ λ x. k | suc j ↦ λ x. g.label j (omega arith) ];
-}
+day_cons {m} {v} {lab} {path} h k g = record { window = window; label = label }
+  where
+    window : (i : ℕ) → i < length (v ∷ path) → at (v ∷ path) i < m
+    window zero x = h
+    window (suc i) x = g.window i (omega arith)
+
+    label : (i : ℕ) → i < length (v ∷ path) → at lab (at (v ∷ path) i) < 86401
+    label zero x = k
+    label (suc i) x = g.label i (omega arith)
 
 module _
     {C D F T H N : List ℕ} {n k : ℕ} {rows : List Row} {c : ℕ} {P S E I : List ℕ} {m : ℕ}
