@@ -13,9 +13,9 @@ vet-found-requires c =
 
 pub plan_sound-requires : goal.plan_sound-requires
 plan_sound-requires c =
-    let S = vetted_sound c.vet-found.ensures (sym c.judged-v.ensures ∙ c.v-in-Sound-1.given.1) in
+    let S = vetted_sound c.vet-found.ensures (sym c.judged-v.ensures ∙ c.in-Sound.is) in
     record { lanes = S.2; by_index = S.1.room }
 
 pub returns-in-Refused : goal.returns-in-Refused
 returns-in-Refused c =
-    vetted_refused c.vet-found.ensures (sym c.judged-v.ensures ∙ c.v-1.given.1) (plan_refused refl)
+    vetted_refused c.vet-found.ensures (sym c.judged-v.ensures ∙ c.in-Refused.is) (plan_refused refl)
