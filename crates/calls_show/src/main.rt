@@ -7,6 +7,7 @@ ghost use Rattle.rules.specs.Limits.{page_limit};
 ghost use Rattle.rules.specs.Bytes.{row_size};
 
 use rules::{Book, Booked, Cancelled, Cursor, Link, Map, Paged, Place, Planned, Refusal, Row};
+use std::io;
 
 // What every byte of the caller's list holds before a call.
 const MARK: u8 = 165;
@@ -328,28 +329,32 @@ fn of_page(a: Paged) -> Said {
 }
 
 // What was asked, the number, the rows where it is 0 or the row that it names, whether the memory is as it was, and whether all this is right.
-fn line(call: &[u8], what: &[u8], said: Said, unchanged: bool, right: bool) {
-    io::write_all(1, call);
-    io::write_all(1, b", ");
-    io::write_all(1, what);
-    io::write_all(1, b": ");
-    io::print_decimal(1, said.number as u64);
+fn line(
+    rt: &impl Print,
+    call: &[u8],
+    what: &[u8],
+    said: Said,
+    unchanged: bool,
+    right: bool,
+) -> io::Result<()> {
+    rt.write_all(call)?;
+    rt.write_all(b", ")?;
+    rt.write_all(what)?;
+    print!(rt; ": {}", said.number)?;
     if said.number == 0 {
-        io::write_all(1, b", rows ");
-        io::print_decimal(1, said.count as u64);
+        print!(rt; ", rows {}", said.count)?;
     } else if said.count > 0 {
-        io::write_all(1, b", row ");
-        io::print_decimal(1, said.count as u64);
+        print!(rt; ", row {}", said.count)?;
     }
     if unchanged {
-        io::write_all(1, b", unchanged");
+        print!(rt; ", unchanged")?;
     } else {
-        io::write_all(1, b", changed");
+        print!(rt; ", changed")?;
     }
     if !right {
-        io::write_all(1, b", wrong");
+        print!(rt; ", wrong")?;
     }
-    io::write_all(1, b"\n");
+    println!(rt)
 }
 
 // The number and the count are those asked for.
@@ -385,6 +390,7 @@ fn list_right(list: &[u8; ROOM], rows: usize) -> bool
 
 // A plan into a list of so many bytes.
 fn try_plan(
+    rt: &impl Print,
     what: &[u8],
     m: Map,
     b: Book,
@@ -394,7 +400,7 @@ fn try_plan(
     room: usize,
     number: u8,
     count: usize,
-)
+) -> io::Result<()>
     requires room_bound { room ≤ page_limit * row_size }
     requires count_bound { count ≤ 64 }
 {
@@ -406,11 +412,12 @@ fn try_plan(
     if !says(said, number, count) {
         right = false;
     }
-    line(b"plan", what, said, unchanged, right);
+    line(rt, b"plan", what, said, unchanged, right)
 }
 
 // A page into a list of so many bytes.
 fn try_page(
+    rt: &impl Print,
     what: &[u8],
     m: Map,
     b: Book,
@@ -421,7 +428,7 @@ fn try_page(
     room: usize,
     number: u8,
     count: usize,
-)
+) -> io::Result<()>
     requires room_bound { room ≤ page_limit * row_size }
     requires count_bound { count ≤ 64 }
 {
@@ -438,11 +445,12 @@ fn try_page(
     if !says(said, number, count) {
         right = false;
     }
-    line(b"page", what, said, unchanged, right);
+    line(rt, b"page", what, said, unchanged, right)
 }
 
 // A booking, and the book that it must leave.
 fn try_book(
+    rt: &impl Print,
     what: &[u8],
     m: Map,
     b: Book,
@@ -452,7 +460,7 @@ fn try_book(
     number: u8,
     count: usize,
     after: Book,
-) {
+) -> io::Result<()> {
     let r = booking::book(m, b, start, destination, second);
     let left = r.book;
     let a = r.answer;
@@ -461,11 +469,20 @@ fn try_book(
     if !says(said, number, count) {
         right = false;
     }
-    line(b"book", what, said, same_book(left, b), right);
+    line(rt, b"book", what, said, same_book(left, b), right)
 }
 
 // A cancellation, and the book that it must leave.
-fn try_cancel(what: &[u8], m: Map, b: Book, ticket: u32, number: u8, count: usize, after: Book) {
+fn try_cancel(
+    rt: &impl Print,
+    what: &[u8],
+    m: Map,
+    b: Book,
+    ticket: u32,
+    number: u8,
+    count: usize,
+    after: Book,
+) -> io::Result<()> {
     let r = booking::cancel(m, b, ticket);
     let left = r.book;
     let a = r.answer;
@@ -474,207 +491,232 @@ fn try_cancel(what: &[u8], m: Map, b: Book, ticket: u32, number: u8, count: usiz
     if !says(said, number, count) {
         right = false;
     }
-    line(b"cancel", what, said, same_book(left, b), right);
+    line(rt, b"cancel", what, said, same_book(left, b), right)
 }
 
 // All four calls, each refused with this number and row.
-fn refused(what: &[u8], m: Map, b: Book, number: u8, row: usize)
+fn refused(rt: &impl Print, what: &[u8], m: Map, b: Book, number: u8, row: usize) -> io::Result<()>
     requires { row ≤ 64 }
 {
-    try_plan(what, m, b, 0, 3, 10, THREE, number, row);
-    try_book(what, m, b, 0, 3, 10, number, row, b);
-    try_cancel(what, m, b, 1, number, row, b);
-    try_page(what, m, b, 2, 0, 0, 0, TWO, number, row);
+    try_plan(rt, what, m, b, 0, 3, 10, THREE, number, row)?;
+    try_book(rt, what, m, b, 0, 3, 10, number, row, b)?;
+    try_cancel(rt, what, m, b, 1, number, row, b)?;
+    try_page(rt, what, m, b, 2, 0, 0, 0, TWO, number, row)
 }
 
 // "1: the map breaks a rule above"
-fn bad_map(what: &[u8], m: Map) {
-    refused(what, m, both(), 1, 0);
+fn bad_map(rt: &impl Print, what: &[u8], m: Map) -> io::Result<()> {
+    refused(rt, what, m, both(), 1, 0)
 }
 
 // The map is good with tickets 1 and 2, as the barn is.
-fn good_map(what: &[u8], m: Map) {
+fn good_map(rt: &impl Print, what: &[u8], m: Map) -> io::Result<()> {
     let b = both();
-    try_plan(what, m, b, 0, 3, 10, THREE, 0, 3);
-    try_book(what, m, b, 0, 3, 10, 0, 3, third());
-    try_cancel(what, m, b, 2, 0, 3, first(3));
-    try_page(what, m, b, 2, 0, 0, 0, TWO, 0, 2);
+    try_plan(rt, what, m, b, 0, 3, 10, THREE, 0, 3)?;
+    try_book(rt, what, m, b, 0, 3, 10, 0, 3, third())?;
+    try_cancel(rt, what, m, b, 2, 0, 3, first(3))?;
+    try_page(rt, what, m, b, 2, 0, 0, 0, TWO, 0, 2)
 }
 
 // "13 keys not rising, 14 a ticket's rows are no plan, 15 a place overfilled, 16 a barred crossing"
-fn faulty(what: &[u8], b: Book, number: u8, row: usize)
+fn faulty(rt: &impl Print, what: &[u8], b: Book, number: u8, row: usize) -> io::Result<()>
     requires { row ≤ 64 }
 {
-    refused(what, barn(), b, number, row);
+    refused(rt, what, barn(), b, number, row)
 }
 
 // "Refusal 2 stays for counts, ranges, spare slots and the next ticket number, with row 0."
-fn bad_book(what: &[u8], b: Book) {
-    faulty(what, b, 2, 0);
+fn bad_book(rt: &impl Print, what: &[u8], b: Book) -> io::Result<()> {
+    faulty(rt, what, b, 2, 0)
 }
 
-fn bad_row(what: &[u8], r: Row) {
-    bad_book(what, one(r));
+fn bad_row(rt: &impl Print, what: &[u8], r: Row) -> io::Result<()> {
+    bad_book(rt, what, one(r))
 }
 
 // Tickets 1 and 2 with this row in a slot past the count.
-fn spare(what: &[u8], i: usize, r: Row)
+fn spare(rt: &impl Print, what: &[u8], i: usize, r: Row) -> io::Result<()>
     requires { i < 1024 }
 {
-    bad_book(what, with_row(both(), i, r));
+    bad_book(rt, what, with_row(both(), i, r))
 }
 
 // The book is good on the barn: a page of 64 shows so many rows.
-fn good_book(what: &[u8], b: Book, rows: usize)
+fn good_book(rt: &impl Print, what: &[u8], b: Book, rows: usize) -> io::Result<()>
     requires { rows ≤ 64 }
 {
-    try_page(what, barn(), b, 64, 0, 0, 0, ROOM, 0, rows);
+    try_page(rt, what, barn(), b, 64, 0, 0, 0, ROOM, 0, rows)
 }
 
 // ---- the table
 
-fn maps() {
-    bad_map(b"place with capacity 0", fifth(0, 10));
-    bad_map(b"place with capacity 17", fifth(17, 10));
-    bad_map(b"place with capacity 255", fifth(255, 10));
-    bad_map(b"place with duration 0", fifth(1, 0));
-    bad_map(b"place with duration 3,601", fifth(1, 3601));
-    bad_map(b"place with duration 65,535", fifth(1, 65535));
-    bad_map(b"link to a place off the map", seventh(0, 4));
-    bad_map(b"link from a place off the map", seventh(4, 0));
-    bad_map(b"link from a place to itself", seventh(2, 2));
-    bad_map(b"link twice", seventh(0, 1));
-    bad_map(b"no places", with_counts(barn(), 0, 0));
+fn maps(rt: &impl Print) -> io::Result<()> {
+    bad_map(rt, b"place with capacity 0", fifth(0, 10))?;
+    bad_map(rt, b"place with capacity 17", fifth(17, 10))?;
+    bad_map(rt, b"place with capacity 255", fifth(255, 10))?;
+    bad_map(rt, b"place with duration 0", fifth(1, 0))?;
+    bad_map(rt, b"place with duration 3,601", fifth(1, 3601))?;
+    bad_map(rt, b"place with duration 65,535", fifth(1, 65535))?;
+    bad_map(rt, b"link to a place off the map", seventh(0, 4))?;
+    bad_map(rt, b"link from a place off the map", seventh(4, 0))?;
+    bad_map(rt, b"link from a place to itself", seventh(2, 2))?;
+    bad_map(rt, b"link twice", seventh(0, 1))?;
+    bad_map(rt, b"no places", with_counts(barn(), 0, 0))?;
     let m = wide();
     let most = usize::MAX;
-    bad_map(b"257 places", with_counts(m, 257, 1024));
-    bad_map(b"largest place count", with_counts(m, most, 1024));
-    bad_map(b"1,025 links", with_counts(m, 256, 1025));
-    bad_map(b"largest link count", with_counts(m, 256, most));
+    bad_map(rt, b"257 places", with_counts(m, 257, 1024))?;
+    bad_map(rt, b"largest place count", with_counts(m, most, 1024))?;
+    bad_map(rt, b"1,025 links", with_counts(m, 256, 1025))?;
+    bad_map(rt, b"largest link count", with_counts(m, 256, most))
 }
 
-fn good_maps() {
-    good_map(b"garbage past the map's counts", littered());
-    good_map(b"capacity 1 and duration 1", fifth(1, 1));
-    good_map(b"capacity 16 and duration 3,600", fifth(16, 3600));
-    good_map(b"link both ways", seventh(3, 2));
+fn good_maps(rt: &impl Print) -> io::Result<()> {
+    good_map(rt, b"garbage past the map's counts", littered())?;
+    good_map(rt, b"capacity 1 and duration 1", fifth(1, 1))?;
+    good_map(rt, b"capacity 16 and duration 3,600", fifth(16, 3600))?;
+    good_map(rt, b"link both ways", seventh(3, 2))?;
     let e = empty();
     let m = wide();
     let r = Row::new(0, 0, 1, 10, 3);
     let s = Row::new(3, 10, 1, 20, 3);
     let after = counted(two(r, s), 2, 2);
-    try_plan(b"256 places, 1,024 links", m, e, 0, 3, 0, TWO, 0, 2);
-    try_book(b"256 places, 1,024 links", m, e, 0, 3, 0, 0, 2, after);
-    try_page(b"256 places, 1,024 links", m, e, 1, 255, 0, 0, ONE, 0, 0);
+    try_plan(rt, b"256 places, 1,024 links", m, e, 0, 3, 0, TWO, 0, 2)?;
+    try_book(rt, b"256 places, 1,024 links", m, e, 0, 3, 0, 0, 2, after)?;
+    try_page(
+        rt,
+        b"256 places, 1,024 links",
+        m,
+        e,
+        1,
+        255,
+        0,
+        0,
+        ONE,
+        0,
+        0,
+    )?;
     let alone = with_counts(m, 1, 0);
-    try_plan(b"one place, no links", alone, e, 0, 0, 0, ONE, 0, 1);
+    try_plan(rt, b"one place, no links", alone, e, 0, 0, 0, ONE, 0, 1)?;
     let apart = with_counts(m, 256, 0);
-    try_plan(b"no links, 0 to 3", apart, e, 0, 3, 0, THREE, 5, 0);
+    try_plan(rt, b"no links, 0 to 3", apart, e, 0, 3, 0, THREE, 5, 0)
 }
 
-fn spare_slots() {
-    spare(b"place in a spare slot", 6, Row::new(1, 0, 0, 0, 0));
-    spare(b"entry in a spare slot", 6, Row::new(0, 1, 0, 0, 0));
-    spare(b"ticket in a spare slot", 6, Row::new(0, 0, 1, 0, 0));
-    spare(b"exit in a spare slot", 6, Row::new(0, 0, 0, 1, 0));
-    spare(b"next in a spare slot", 6, Row::new(0, 0, 0, 0, 1));
-    spare(b"place in the last slot", 1023, Row::new(1, 0, 0, 0, 0));
-    spare(b"next in the last slot", 1023, Row::new(0, 0, 0, 0, 1));
+fn spare_slots(rt: &impl Print) -> io::Result<()> {
+    spare(rt, b"place in a spare slot", 6, Row::new(1, 0, 0, 0, 0))?;
+    spare(rt, b"entry in a spare slot", 6, Row::new(0, 1, 0, 0, 0))?;
+    spare(rt, b"ticket in a spare slot", 6, Row::new(0, 0, 1, 0, 0))?;
+    spare(rt, b"exit in a spare slot", 6, Row::new(0, 0, 0, 1, 0))?;
+    spare(rt, b"next in a spare slot", 6, Row::new(0, 0, 0, 0, 1))?;
+    spare(rt, b"place in the last slot", 1023, Row::new(1, 0, 0, 0, 0))?;
+    spare(rt, b"next in the last slot", 1023, Row::new(0, 0, 0, 0, 1))?;
     let b = counted(one(Row::new(0, 0, 0, 1, 0)), 0, 3);
-    bad_book(b"exit in the first slot, no rows", b);
-    bad_book(b"spare slot counted", counted(both(), 7, 3));
+    bad_book(rt, b"exit in the first slot, no rows", b)?;
+    bad_book(rt, b"spare slot counted", counted(both(), 7, 3))
 }
 
-fn ranges() {
+fn ranges(rt: &impl Print) -> io::Result<()> {
     let most = u32::MAX;
-    bad_row(b"place off the map", Row::new(4, 30, 1, 40, 4));
-    bad_row(b"next off the map", Row::new(3, 30, 1, 40, 4));
-    bad_row(b"entry 86,401", Row::new(3, 86401, 1, 86411, 3));
-    bad_row(b"entry 2^24 late", Row::new(3, 16777246, 1, 40, 3));
-    bad_row(b"largest entry", Row::new(3, most, 1, 9, 3));
-    bad_row(b"exit 86,401", Row::new(3, 86391, 1, 86401, 3));
-    bad_row(b"exit 2^24 late", Row::new(3, 30, 1, 16777256, 3));
-    bad_row(b"largest exit", Row::new(3, 30, 1, most, 3));
-    bad_row(b"ticket 0", Row::new(3, 30, 0, 40, 3));
-    bad_row(b"ticket equal to the next", Row::new(3, 30, 3, 40, 3));
-    bad_row(b"ticket 2^24 high", Row::new(3, 30, 16777217, 40, 3));
-    bad_row(b"largest ticket", Row::new(3, 30, most, 40, 3));
+    bad_row(rt, b"place off the map", Row::new(4, 30, 1, 40, 4))?;
+    bad_row(rt, b"next off the map", Row::new(3, 30, 1, 40, 4))?;
+    bad_row(rt, b"entry 86,401", Row::new(3, 86401, 1, 86411, 3))?;
+    bad_row(rt, b"entry 2^24 late", Row::new(3, 16777246, 1, 40, 3))?;
+    bad_row(rt, b"largest entry", Row::new(3, most, 1, 9, 3))?;
+    bad_row(rt, b"exit 86,401", Row::new(3, 86391, 1, 86401, 3))?;
+    bad_row(rt, b"exit 2^24 late", Row::new(3, 30, 1, 16777256, 3))?;
+    bad_row(rt, b"largest exit", Row::new(3, 30, 1, most, 3))?;
+    bad_row(rt, b"ticket 0", Row::new(3, 30, 0, 40, 3))?;
+    bad_row(rt, b"ticket equal to the next", Row::new(3, 30, 3, 40, 3))?;
+    bad_row(rt, b"ticket 2^24 high", Row::new(3, 30, 16777217, 40, 3))?;
+    bad_row(rt, b"largest ticket", Row::new(3, 30, most, 40, 3))?;
     let b = one(Row::new(3, 30, 1000000, 40, 3));
-    bad_book(b"ticket 1,000,000", counted(b, 1, 1000000));
-    bad_book(b"ticket below 1,000,001", counted(b, 1, 1000001));
+    bad_book(rt, b"ticket 1,000,000", counted(b, 1, 1000000))?;
+    bad_book(rt, b"ticket below 1,000,001", counted(b, 1, 1000001))
 }
 
-fn counts() {
+fn counts(rt: &impl Print) -> io::Result<()> {
     let b = crowd(1024);
     let e = empty();
-    bad_book(b"1,025 rows", counted(b, 1025, 1025));
-    bad_book(b"largest row count", counted(b, usize::MAX, 1025));
-    bad_book(b"next ticket 0", counted(e, 0, 0));
-    bad_book(b"next ticket 1,000,001", counted(e, 0, 1000001));
-    bad_book(b"largest next ticket", counted(e, 0, u32::MAX));
+    bad_book(rt, b"1,025 rows", counted(b, 1025, 1025))?;
+    bad_book(rt, b"largest row count", counted(b, usize::MAX, 1025))?;
+    bad_book(rt, b"next ticket 0", counted(e, 0, 0))?;
+    bad_book(rt, b"next ticket 1,000,001", counted(e, 0, 1000001))?;
+    bad_book(rt, b"largest next ticket", counted(e, 0, u32::MAX))
 }
 
-fn orders() {
+fn orders(rt: &impl Print) -> io::Result<()> {
     let r = Row::new(0, 0, 1, 10, 0);
     let s = Row::new(0, 0, 2, 10, 0);
     let t = Row::new(0, 1, 2, 11, 0);
     let u = Row::new(3, 0, 2, 10, 3);
-    faulty(b"rows falling by place", two(u, r), 13, 2);
-    faulty(b"rows falling by entry", two(t, r), 13, 2);
-    faulty(b"rows falling by ticket", two(s, r), 13, 2);
-    faulty(b"row twice", two(r, r), 13, 2);
+    faulty(rt, b"rows falling by place", two(u, r), 13, 2)?;
+    faulty(rt, b"rows falling by entry", two(t, r), 13, 2)?;
+    faulty(rt, b"rows falling by ticket", two(s, r), 13, 2)?;
+    faulty(rt, b"row twice", two(r, r), 13, 2)
 }
 
-fn runs() {
+fn runs(rt: &impl Print) -> io::Result<()> {
     let r = Row::new(0, 0, 1, 10, 1);
     let s = Row::new(1, 10, 1, 30, 3);
     let t = Row::new(3, 30, 1, 40, 3);
-    faulty(b"run without its last row", two(r, s), 14, 1);
-    faulty(b"run without its second row", two(r, t), 14, 1);
+    faulty(rt, b"run without its last row", two(r, s), 14, 1)?;
+    faulty(rt, b"run without its second row", two(r, t), 14, 1)?;
     let again = Row::new(3, 50, 1, 60, 3);
-    faulty(b"two runs under one ticket", two(t, again), 14, 1);
+    faulty(rt, b"two runs under one ticket", two(t, again), 14, 1)?;
     let other = Row::new(2, 0, 1, 30, 3);
-    faulty(b"two rows before one", three(s, other, t), 14, 1);
+    faulty(rt, b"two rows before one", three(s, other, t), 14, 1)?;
     let back = Row::new(2, 0, 1, 30, 0);
     let there = Row::new(0, 30, 1, 40, 0);
-    faulty(b"step without a link", two(there, back), 14, 1);
+    faulty(rt, b"step without a link", two(there, back), 14, 1)?;
     let late = Row::new(1, 11, 1, 31, 1);
-    faulty(b"step to a later entry", two(r, late), 14, 1);
+    faulty(rt, b"step to a later entry", two(r, late), 14, 1)?;
     let short = Row::new(0, 0, 1, 9, 1);
     let soon = Row::new(1, 9, 1, 29, 1);
-    faulty(b"first stay too short", two(short, soon), 14, 1);
+    faulty(rt, b"first stay too short", two(short, soon), 14, 1)?;
     faulty(
+        rt,
         b"last stay too short",
         one(Row::new(3, 30, 1, 39, 3)),
         14,
         1,
-    );
-    faulty(b"last stay too long", one(Row::new(3, 30, 1, 41, 3)), 14, 1);
-    faulty(b"exit before entry", one(Row::new(3, 30, 1, 20, 3)), 14, 1);
+    )?;
+    faulty(
+        rt,
+        b"last stay too long",
+        one(Row::new(3, 30, 1, 41, 3)),
+        14,
+        1,
+    )?;
+    faulty(
+        rt,
+        b"exit before entry",
+        one(Row::new(3, 30, 1, 20, 3)),
+        14,
+        1,
+    )
 }
 
-fn conflicts() {
+fn conflicts(rt: &impl Print) -> io::Result<()> {
     let r = Row::new(3, 30, 1, 40, 3);
     let s = Row::new(3, 39, 2, 49, 3);
-    faulty(b"overfilled place", two(r, s), 15, 2);
+    faulty(rt, b"overfilled place", two(r, s), 15, 2)?;
     let leaves = Row::new(0, 0, 1, 30, 1);
     let enters = Row::new(0, 30, 2, 40, 0);
     let meets = Row::new(1, 0, 2, 30, 0);
     let met = Row::new(1, 30, 1, 50, 1);
     let b = four(leaves, enters, meets, met);
-    faulty(b"head-on exchange", b, 16, 3);
+    faulty(rt, b"head-on exchange", b, 16, 3)
 }
 
 // The checks go over the whole book one after the other, and of two broken runs the lower ticket's is named.
-fn checks_in_order() {
+fn checks_in_order(rt: &impl Print) -> io::Result<()> {
     let short = Row::new(0, 0, 2, 9, 0);
     let brief = Row::new(3, 30, 1, 39, 3);
-    faulty(b"two broken runs", two(short, brief), 14, 2);
+    faulty(rt, b"two broken runs", two(short, brief), 14, 2)?;
     let r = Row::new(3, 30, 1, 40, 3);
-    bad_book(b"2 before 13", two(r, Row::new(0, 0, 0, 10, 0)));
-    faulty(b"13 before 14", two(brief, short), 13, 2);
+    bad_book(rt, b"2 before 13", two(r, Row::new(0, 0, 0, 10, 0)))?;
+    faulty(rt, b"13 before 14", two(brief, short), 13, 2)?;
     let long = Row::new(3, 39, 2, 50, 3);
-    faulty(b"14 before 15", two(r, long), 14, 2);
+    faulty(rt, b"14 before 15", two(r, long), 14, 2)?;
     let b = four(
         Row::new(0, 0, 1, 30, 1),
         Row::new(0, 30, 2, 40, 0),
@@ -682,172 +724,208 @@ fn checks_in_order() {
         Row::new(1, 30, 1, 50, 1),
     );
     let crowded = with_row(b, 4, Row::new(1, 40, 3, 60, 1));
-    faulty(b"15 before 16", counted(crowded, 5, 4), 15, 5);
+    faulty(rt, b"15 before 16", counted(crowded, 5, 4), 15, 5)
 }
 
-fn good_books() {
-    good_book(b"no rows", empty(), 0);
-    good_book(b"tickets 1 and 2", both(), 6);
-    good_book(b"1,024 rows", crowd(1024), 64);
-    good_book(b"next ticket 1,000,000", counted(both(), 6, 1000000), 6);
+fn good_books(rt: &impl Print) -> io::Result<()> {
+    good_book(rt, b"no rows", empty(), 0)?;
+    good_book(rt, b"tickets 1 and 2", both(), 6)?;
+    good_book(rt, b"1,024 rows", crowd(1024), 64)?;
+    good_book(rt, b"next ticket 1,000,000", counted(both(), 6, 1000000), 6)?;
     let r = Row::new(3, 86390, 1, 86400, 3);
-    good_book(b"exit 86,400", one(r), 1);
+    good_book(rt, b"exit 86,400", one(r), 1)?;
     let s = Row::new(3, 30, 999999, 40, 3);
-    good_book(b"ticket 999,999", counted(one(s), 1, 1000000), 1);
+    good_book(rt, b"ticket 999,999", counted(one(s), 1, 1000000), 1)?;
     let t = Row::new(3, 30, 1, 40, 3);
     let u = Row::new(3, 40, 2, 50, 3);
-    good_book(b"entry at an exit", two(t, u), 2);
+    good_book(rt, b"entry at an exit", two(t, u), 2)?;
     let v = Row::new(0, 0, 1, 10, 0);
     let w = Row::new(0, 0, 2, 10, 0);
-    good_book(b"full place", two(v, w), 2);
+    good_book(rt, b"full place", two(v, w), 2)?;
     let leaves = Row::new(0, 0, 1, 31, 1);
     let enters = Row::new(0, 30, 2, 40, 0);
     let meets = Row::new(1, 0, 2, 30, 0);
     let met = Row::new(1, 31, 1, 51, 1);
     let b = four(leaves, enters, meets, met);
-    good_book(b"exchange a second apart", b, 4);
+    good_book(rt, b"exchange a second apart", b, 4)?;
     let m = fifth(1, 10);
     let c = one(Row::new(4, 30, 1, 40, 4));
-    try_page(b"place 4 of five", m, c, 1, 0, 0, 0, ONE, 0, 1);
+    try_page(rt, b"place 4 of five", m, c, 1, 0, 0, 0, ONE, 0, 1)
 }
 
 // "plan 1, 2, 3, 4, 5, 6"
-fn planned() {
+fn planned(rt: &impl Print) -> io::Result<()> {
     let m = barn();
     let b = both();
     let most = u32::MAX;
-    try_plan(b"0 to 3 at 10, list of 3", m, b, 0, 3, 10, THREE, 0, 3);
-    try_plan(b"0 to 3 at 10, list of 64", m, b, 0, 3, 10, ROOM, 0, 3);
-    try_plan(b"start 4", m, b, 4, 3, 10, THREE, 3, 0);
-    try_plan(b"start 256", m, b, 256, 3, 10, THREE, 3, 0);
-    try_plan(b"destination 4", m, b, 0, 4, 10, THREE, 3, 0);
-    try_plan(b"largest destination", m, b, 0, most, 10, THREE, 3, 0);
-    try_plan(b"second 86,401", m, b, 3, 3, 86401, THREE, 4, 0);
-    try_plan(b"largest second", m, b, 3, 3, most, THREE, 4, 0);
-    try_plan(b"second 86,400", m, b, 3, 3, 86400, THREE, 5, 0);
-    try_plan(b"second 86,391", m, b, 3, 3, 86391, THREE, 5, 0);
-    try_plan(b"second 86,390", m, b, 3, 3, 86390, THREE, 0, 1);
-    try_plan(b"0 to 3 at 0", m, b, 0, 3, 0, THREE, 5, 0);
-    try_plan(b"list of 3 but a byte", m, b, 0, 3, 10, THREE_BUT, 6, 0);
-    try_plan(b"list of none", m, b, 0, 3, 10, 0, 6, 0);
+    try_plan(rt, b"0 to 3 at 10, list of 3", m, b, 0, 3, 10, THREE, 0, 3)?;
+    try_plan(rt, b"0 to 3 at 10, list of 64", m, b, 0, 3, 10, ROOM, 0, 3)?;
+    try_plan(rt, b"start 4", m, b, 4, 3, 10, THREE, 3, 0)?;
+    try_plan(rt, b"start 256", m, b, 256, 3, 10, THREE, 3, 0)?;
+    try_plan(rt, b"destination 4", m, b, 0, 4, 10, THREE, 3, 0)?;
+    try_plan(rt, b"largest destination", m, b, 0, most, 10, THREE, 3, 0)?;
+    try_plan(rt, b"second 86,401", m, b, 3, 3, 86401, THREE, 4, 0)?;
+    try_plan(rt, b"largest second", m, b, 3, 3, most, THREE, 4, 0)?;
+    try_plan(rt, b"second 86,400", m, b, 3, 3, 86400, THREE, 5, 0)?;
+    try_plan(rt, b"second 86,391", m, b, 3, 3, 86391, THREE, 5, 0)?;
+    try_plan(rt, b"second 86,390", m, b, 3, 3, 86390, THREE, 0, 1)?;
+    try_plan(rt, b"0 to 3 at 0", m, b, 0, 3, 0, THREE, 5, 0)?;
+    try_plan(rt, b"list of 3 but a byte", m, b, 0, 3, 10, THREE_BUT, 6, 0)?;
+    try_plan(rt, b"list of none", m, b, 0, 3, 10, 0, 6, 0)?;
     let k = fifth(17, 10);
     let c = one(Row::new(3, 30, 0, 40, 3));
-    try_plan(b"1 before 2, 3, 4, 5", k, c, 9, 9, 86401, 0, 1, 0);
-    try_plan(b"2 before 3, 4, 5", m, c, 9, 9, 86401, 0, 2, 0);
-    try_plan(b"3 before 4 and 5", m, b, 0, 4, 86401, 0, 3, 0);
-    try_plan(b"4 before 5", m, b, 0, 3, 86401, 0, 4, 0);
-    try_plan(b"no plan, list of none", m, b, 0, 3, 0, 0, 5, 0);
+    try_plan(rt, b"1 before 2, 3, 4, 5", k, c, 9, 9, 86401, 0, 1, 0)?;
+    try_plan(rt, b"2 before 3, 4, 5", m, c, 9, 9, 86401, 0, 2, 0)?;
+    try_plan(rt, b"3 before 4 and 5", m, b, 0, 4, 86401, 0, 3, 0)?;
+    try_plan(rt, b"4 before 5", m, b, 0, 3, 86401, 0, 4, 0)?;
+    try_plan(rt, b"no plan, list of none", m, b, 0, 3, 0, 0, 5, 0)
 }
 
 // "book 1, 2, 3, 4, 8, 5, 7"
-fn booked() {
+fn booked(rt: &impl Print) -> io::Result<()> {
     let m = barn();
     let f = first(2);
     let b = both();
-    try_book(b"0 to 3 at 0 beside 1", m, f, 0, 3, 0, 0, 3, b);
-    try_book(b"0 to 3 at 10", m, b, 0, 3, 10, 0, 3, third());
-    try_book(b"start 4", m, b, 4, 3, 10, 3, 0, b);
-    try_book(b"destination 256", m, b, 0, 256, 10, 3, 0, b);
-    try_book(b"second 86,401", m, b, 0, 3, 86401, 4, 0, b);
+    try_book(rt, b"0 to 3 at 0 beside 1", m, f, 0, 3, 0, 0, 3, b)?;
+    try_book(rt, b"0 to 3 at 10", m, b, 0, 3, 10, 0, 3, third())?;
+    try_book(rt, b"start 4", m, b, 4, 3, 10, 3, 0, b)?;
+    try_book(rt, b"destination 256", m, b, 0, 256, 10, 3, 0, b)?;
+    try_book(rt, b"second 86,401", m, b, 0, 3, 86401, 4, 0, b)?;
     let s = counted(b, 6, 1000000);
-    try_book(b"next ticket 1,000,000", m, s, 0, 3, 10, 8, 0, s);
-    try_book(b"0 to 3 at 0", m, b, 0, 3, 0, 5, 0, b);
+    try_book(rt, b"next ticket 1,000,000", m, s, 0, 3, 10, 8, 0, s)?;
+    try_book(rt, b"0 to 3 at 0", m, b, 0, 3, 0, 5, 0, b)
 }
 
-fn booked_full() {
+fn booked_full(rt: &impl Print) -> io::Result<()> {
     let m = barn();
     let b = crowd(1024);
-    try_book(b"1 row, none free", m, b, 3, 3, 20000, 7, 0, b);
+    try_book(rt, b"1 row, none free", m, b, 3, 3, 20000, 7, 0, b)?;
     let c = crowd(1022);
-    try_book(b"3 rows, 2 free", m, c, 0, 3, 0, 7, 0, c);
+    try_book(rt, b"3 rows, 2 free", m, c, 0, 3, 0, 7, 0, c)?;
     let d = crowd(1023);
     let r = Row::new(3, 20000, 1024, 20010, 3);
     let after = counted(with_row(d, 1023, r), 1024, 1025);
-    try_book(b"1 row, 1 free", m, d, 3, 3, 20000, 0, 1, after);
+    try_book(rt, b"1 row, 1 free", m, d, 3, 3, 20000, 0, 1, after)
 }
 
-fn booked_in_order() {
+fn booked_in_order(rt: &impl Print) -> io::Result<()> {
     let m = barn();
     let b = crowd(1024);
     let k = fifth(17, 10);
     let x = counted(one(Row::new(3, 30, 0, 40, 3)), 1, 1000000);
-    try_book(b"1 before 2, 3, 4, 8, 5", k, x, 9, 9, 86401, 1, 0, x);
-    try_book(b"2 before 3, 4, 8, 5", m, x, 9, 9, 86401, 2, 0, x);
+    try_book(rt, b"1 before 2, 3, 4, 8, 5", k, x, 9, 9, 86401, 1, 0, x)?;
+    try_book(rt, b"2 before 3, 4, 8, 5", m, x, 9, 9, 86401, 2, 0, x)?;
     let s = counted(b, 1024, 1000000);
-    try_book(b"3 before 4, 8, 5", m, s, 4, 3, 86401, 3, 0, s);
-    try_book(b"4 before 8 and 5", m, s, 3, 3, 86401, 4, 0, s);
-    try_book(b"8 before 5", m, s, 3, 3, 0, 8, 0, s);
-    try_book(b"8 before 7", m, s, 3, 3, 20000, 8, 0, s);
-    try_book(b"5 in a full book", m, b, 3, 3, 0, 5, 0, b);
+    try_book(rt, b"3 before 4, 8, 5", m, s, 4, 3, 86401, 3, 0, s)?;
+    try_book(rt, b"4 before 8 and 5", m, s, 3, 3, 86401, 4, 0, s)?;
+    try_book(rt, b"8 before 5", m, s, 3, 3, 0, 8, 0, s)?;
+    try_book(rt, b"8 before 7", m, s, 3, 3, 20000, 8, 0, s)?;
+    try_book(rt, b"5 in a full book", m, b, 3, 3, 0, 5, 0, b)
 }
 
 // "cancel 1, 2, 9"
-fn cancelled() {
+fn cancelled(rt: &impl Print) -> io::Result<()> {
     let m = barn();
     let b = both();
     let f = first(3);
-    try_cancel(b"ticket 2", m, b, 2, 0, 3, f);
-    try_cancel(b"ticket 2, cancelled before", m, f, 2, 9, 0, f);
+    try_cancel(rt, b"ticket 2", m, b, 2, 0, 3, f)?;
+    try_cancel(rt, b"ticket 2, cancelled before", m, f, 2, 9, 0, f)?;
     let e = counted(empty(), 0, 3);
-    try_cancel(b"only ticket", m, f, 1, 0, 3, e);
-    try_cancel(b"ticket of no rows", m, e, 1, 9, 0, e);
-    try_cancel(b"ticket 0", m, b, 0, 9, 0, b);
-    try_cancel(b"next ticket", m, b, 3, 9, 0, b);
-    try_cancel(b"ticket 2^24 high", m, b, 16777217, 9, 0, b);
-    try_cancel(b"largest ticket", m, b, u32::MAX, 9, 0, b);
+    try_cancel(rt, b"only ticket", m, f, 1, 0, 3, e)?;
+    try_cancel(rt, b"ticket of no rows", m, e, 1, 9, 0, e)?;
+    try_cancel(rt, b"ticket 0", m, b, 0, 9, 0, b)?;
+    try_cancel(rt, b"next ticket", m, b, 3, 9, 0, b)?;
+    try_cancel(rt, b"ticket 2^24 high", m, b, 16777217, 9, 0, b)?;
+    try_cancel(rt, b"largest ticket", m, b, u32::MAX, 9, 0, b)?;
     let s = counted(b, 6, 1000000);
-    try_cancel(b"ticket 1,000,000", m, s, 1000000, 9, 0, s);
+    try_cancel(rt, b"ticket 1,000,000", m, s, 1000000, 9, 0, s)?;
     let k = fifth(17, 10);
     let c = one(Row::new(3, 30, 0, 40, 3));
-    try_cancel(b"1 before 2 and 9", k, c, 9, 1, 0, c);
-    try_cancel(b"2 before 9", m, c, 9, 2, 0, c);
+    try_cancel(rt, b"1 before 2 and 9", k, c, 9, 1, 0, c)?;
+    try_cancel(rt, b"2 before 9", m, c, 9, 2, 0, c)
 }
 
 // "page 1, 2, 10, 11, 6"
-fn paged() {
+fn paged(rt: &impl Print) -> io::Result<()> {
     let m = barn();
     let b = both();
     let most = u32::MAX;
     let past = 1000000;
-    try_page(b"2 rows, list of 2", m, b, 2, 0, 0, 0, TWO, 0, 2);
-    try_page(b"after the fifth row", m, b, 64, 3, 30, 1, ROOM, 0, 1);
-    try_page(b"last cursor", m, b, 64, 3, 86400, 999999, ROOM, 0, 0);
-    try_page(b"size 0", m, b, 0, 0, 0, 0, ROOM, 10, 0);
-    try_page(b"size 65", m, b, 65, 0, 0, 0, ROOM, 10, 0);
-    try_page(b"largest size", m, b, most, 0, 0, 0, ROOM, 10, 0);
-    try_page(b"cursor place 4", m, b, 2, 4, 0, 0, TWO, 11, 0);
-    try_page(b"cursor place 256", m, b, 2, 256, 0, 0, TWO, 11, 0);
-    try_page(b"largest cursor place", m, b, 2, most, 0, 0, TWO, 11, 0);
-    try_page(b"cursor entry 86,401", m, b, 2, 0, 86401, 0, TWO, 11, 0);
-    try_page(b"largest cursor entry", m, b, 2, 0, most, 0, TWO, 11, 0);
-    try_page(b"cursor ticket 1,000,000", m, b, 2, 0, 0, past, TWO, 11, 0);
-    try_page(b"largest cursor ticket", m, b, 2, 0, 0, most, TWO, 11, 0);
-    try_page(b"list of 2 but a byte", m, b, 2, 0, 0, 0, TWO_BUT, 6, 0);
-    try_page(b"size 64, list of 63", m, b, 64, 0, 0, 0, ROOM_BUT, 6, 0);
+    try_page(rt, b"2 rows, list of 2", m, b, 2, 0, 0, 0, TWO, 0, 2)?;
+    try_page(rt, b"after the fifth row", m, b, 64, 3, 30, 1, ROOM, 0, 1)?;
+    try_page(rt, b"last cursor", m, b, 64, 3, 86400, 999999, ROOM, 0, 0)?;
+    try_page(rt, b"size 0", m, b, 0, 0, 0, 0, ROOM, 10, 0)?;
+    try_page(rt, b"size 65", m, b, 65, 0, 0, 0, ROOM, 10, 0)?;
+    try_page(rt, b"largest size", m, b, most, 0, 0, 0, ROOM, 10, 0)?;
+    try_page(rt, b"cursor place 4", m, b, 2, 4, 0, 0, TWO, 11, 0)?;
+    try_page(rt, b"cursor place 256", m, b, 2, 256, 0, 0, TWO, 11, 0)?;
+    try_page(rt, b"largest cursor place", m, b, 2, most, 0, 0, TWO, 11, 0)?;
+    try_page(rt, b"cursor entry 86,401", m, b, 2, 0, 86401, 0, TWO, 11, 0)?;
+    try_page(rt, b"largest cursor entry", m, b, 2, 0, most, 0, TWO, 11, 0)?;
+    try_page(
+        rt,
+        b"cursor ticket 1,000,000",
+        m,
+        b,
+        2,
+        0,
+        0,
+        past,
+        TWO,
+        11,
+        0,
+    )?;
+    try_page(
+        rt,
+        b"largest cursor ticket",
+        m,
+        b,
+        2,
+        0,
+        0,
+        most,
+        TWO,
+        11,
+        0,
+    )?;
+    try_page(rt, b"list of 2 but a byte", m, b, 2, 0, 0, 0, TWO_BUT, 6, 0)?;
+    try_page(
+        rt,
+        b"size 64, list of 63",
+        m,
+        b,
+        64,
+        0,
+        0,
+        0,
+        ROOM_BUT,
+        6,
+        0,
+    )?;
     let k = fifth(17, 10);
     let c = one(Row::new(3, 30, 0, 40, 3));
-    try_page(b"1 before 2, 10, 11, 6", k, c, 65, 9, 0, 0, 0, 1, 0);
-    try_page(b"2 before 10, 11, 6", m, c, 65, 9, 0, 0, 0, 2, 0);
-    try_page(b"10 before 11", m, b, 0, 4, 0, 0, 0, 10, 0);
-    try_page(b"10 before 11 and 6", m, b, 65, 4, 0, 0, 0, 10, 0);
-    try_page(b"11 before 6", m, b, 2, 4, 0, 0, 0, 11, 0);
+    try_page(rt, b"1 before 2, 10, 11, 6", k, c, 65, 9, 0, 0, 0, 1, 0)?;
+    try_page(rt, b"2 before 10, 11, 6", m, c, 65, 9, 0, 0, 0, 2, 0)?;
+    try_page(rt, b"10 before 11", m, b, 0, 4, 0, 0, 0, 10, 0)?;
+    try_page(rt, b"10 before 11 and 6", m, b, 65, 4, 0, 0, 0, 10, 0)?;
+    try_page(rt, b"11 before 6", m, b, 2, 4, 0, 0, 0, 11, 0)
 }
 
-fn main() {
-    maps();
-    good_maps();
-    spare_slots();
-    ranges();
-    counts();
-    orders();
-    runs();
-    conflicts();
-    checks_in_order();
-    good_books();
-    planned();
-    booked();
-    booked_full();
-    booked_in_order();
-    cancelled();
-    paged();
+fn main(rt: HostRuntime) -> io::Result<()> {
+    maps(&rt)?;
+    good_maps(&rt)?;
+    spare_slots(&rt)?;
+    ranges(&rt)?;
+    counts(&rt)?;
+    orders(&rt)?;
+    runs(&rt)?;
+    conflicts(&rt)?;
+    checks_in_order(&rt)?;
+    good_books(&rt)?;
+    planned(&rt)?;
+    booked(&rt)?;
+    booked_full(&rt)?;
+    booked_in_order(&rt)?;
+    cancelled(&rt)?;
+    paged(&rt)
 }

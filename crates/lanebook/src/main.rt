@@ -5,8 +5,8 @@ ghost use Rattle.std.specs.Prelude.{◌≤◌, length};
 ghost use Rattle.rules.specs.Bytes.{answer_room};
 ghost use Rattle.lanebook.specs.Turns.{Took};
 
-use libc::{STDIN_FILENO, STDOUT_FILENO};
 use rules::Desk;
+use std::io::Read;
 
 // What stands after a read, and whether to read on.
 #[derive(Clone, Copy)]
@@ -16,18 +16,20 @@ struct Turn {
 }
 
 // The first n bytes of a list, written.
-fn write(out: &[u8], n: usize) -> bool
+fn write(rt: &(impl Print + Eprint), out: &[u8], n: usize) -> bool
     requires { n ≤ length out.now }
 {
-    let written = io::write_all(STDOUT_FILENO, &out[..n]);
-    if !written {
-        os::fail(&[b'w', b'r', b'i', b't', b'e']);
+    match rt.write_all(&out[..n]) {
+        Ok(()) => true,
+        Err(e) => {
+            let _ = eprintln!(rt; "write: {e}");
+            false
+        }
     }
-    written
 }
 
 // What one read brought, answered: the answers are written whenever there is no room for one more, and at the end.
-fn answered(d: Desk, buf: &[u8], out: &mut [u8]) -> Turn
+fn answered(rt: &(impl Print + Eprint), d: Desk, buf: &[u8], out: &mut [u8]) -> Turn
     requires { answer_room ≤ length out.old }
     ensures { Took d buf.now result }
 {
@@ -37,7 +39,7 @@ fn answered(d: Desk, buf: &[u8], out: &mut [u8]) -> Turn
         let f = frames::fed(desk, buf, i, out);
         desk = f.desk;
         i = f.upto;
-        if !write(out, f.len) {
+        if !write(rt, out, f.len) {
             return Turn { desk, on: false };
         }
     }
@@ -45,46 +47,54 @@ fn answered(d: Desk, buf: &[u8], out: &mut [u8]) -> Turn
 }
 
 // The last line, where it lacks its line feed.
-fn last(d: Desk, out: &mut [u8])
+fn last(rt: &(impl Print + Eprint), d: Desk, out: &mut [u8])
     requires { answer_room ≤ length out.old }
 {
     let t = frames::ended(d, out);
-    write(out, t.len);
+    write(rt, out, t.len);
 }
 
 // One read, and its answers.
-fn sit(d: Desk, buf: &mut [u8], out: &mut [u8]) -> Turn
+fn sit(
+    rt: &(impl Print + Eprint),
+    input: &mut impl Read,
+    d: Desk,
+    buf: &mut [u8],
+    out: &mut [u8],
+) -> Turn
     requires { answer_room ≤ length out.old }
 {
-    let got = libc::read(STDIN_FILENO, buf);
-    if got < 0 {
-        os::fail(&[b'r', b'e', b'a', b'd']);
-        return Turn { desk: d, on: false };
+    match input.read(buf) {
+        Ok(0) => {
+            last(rt, d, out);
+            Turn { desk: d, on: false }
+        }
+        Ok(n) => answered(rt, d, &buf[..n], out),
+        Err(e) => {
+            let _ = eprintln!(rt; "read: {e}");
+            Turn { desk: d, on: false }
+        }
     }
-    let n = io::count(got, buf);
-    if n == 0 {
-        last(d, out);
-        return Turn { desk: d, on: false };
-    }
-    answered(d, &buf[..n], out)
 }
 
-// A proved loop has to end, and nothing says that the input does: the turns are counted down from a number that no run uses up.
-fn run(buf: &mut [u8], out: &mut [u8])
+// A proved loop has to end, and nothing says that the input does: the turns are counted up to a number that no run uses up.
+fn run(rt: &(impl Input + Print + Eprint), buf: &mut [u8], out: &mut [u8])
     requires { answer_room ≤ length out.old }
 {
+    let mut input = rt.reader();
     let d = frames::first_desk();
     let mut t = Turn { desk: d, on: true };
-    let mut turns = u64::MAX;
-    while turns > 0 && t.on {
+    for _ in 0..u64::MAX {
+        if !t.on {
+            return;
+        }
         let e = t.desk;
-        t = sit(e, buf, out);
-        turns -= 1;
+        t = sit(rt, &mut input, e, buf, out);
     }
 }
 
-fn main() {
-    let mut buf = io::large_buffer();
-    let mut out = io::large_buffer();
-    run(&mut buf, &mut out);
+fn main(rt: HostRuntime) {
+    let mut buf = [0u8; 65536];
+    let mut out = [0u8; 65536];
+    run(&rt, &mut buf, &mut out);
 }

@@ -9,6 +9,7 @@ ghost use Rattle.rules.specs.Answer.{PlanRecords, PageRecords};
 ghost use Rattle.records_show.specs.Shown.{barn_map, marks, planned, paged, both_book, PlanOn, PageOn};
 
 use rules::{Book, Cursor, Link, Map, Paged, Place, Planned, Row};
+use std::io;
 
 #[derive(Clone, Copy)]
 struct PlanShown {
@@ -203,19 +204,12 @@ fn page_into(n: usize) -> PageShown
 }
 
 // One line: how many records were lent, the number returned and the rows.
-fn say(n: usize, code: u8, count: usize) {
-    let space = [b' '];
-    let end = [b'\n'];
-    io::print_decimal(1, n as u64);
-    io::write_all(1, &space);
-    io::print_decimal(1, code as u64);
-    io::write_all(1, &space);
-    io::print_decimal(1, count as u64);
-    io::write_all(1, &end);
+fn say(rt: &impl Print, n: usize, code: u8, count: usize) -> io::Result<()> {
+    println!(rt; "{n} {code} {count}")
 }
 
 // A plan has three rows: a shorter list is refused with 6 and stays as it was.
-fn check_plan(n: usize)
+fn check_plan(rt: &impl Print, n: usize) -> io::Result<()>
     requires { n ≤ 8 }
 {
     let s = plan_into(n);
@@ -223,20 +217,24 @@ fn check_plan(n: usize)
     let a = s.answer;
     let code = a.number();
     let count = a.rows();
-    say(n, code, count);
+    say(rt, n, code, count)?;
     if n < 3 {
-        check::expect(same_rows(rows, marked()));
-        check::expect(code == 6);
-        return;
+        let kept = same_rows(rows, marked());
+        prove!(kept);
+        prove!(code == 6);
+        return Ok(());
     }
-    check::expect(same_rows(rows, planned_rows()));
-    check::expect(code == 0);
-    check::expect(a.arrival() == 60);
-    check::expect(count == 3);
+    let written = same_rows(rows, planned_rows());
+    prove!(written);
+    prove!(code == 0);
+    let arrival = a.arrival();
+    prove!(arrival == 60);
+    prove!(count == 3);
+    Ok(())
 }
 
 // A page of 2 asks for two records, and has two rows and more after them.
-fn check_page(n: usize)
+fn check_page(rt: &impl Print, n: usize) -> io::Result<()>
     requires { n ≤ 8 }
 {
     let s = page_into(n);
@@ -244,16 +242,20 @@ fn check_page(n: usize)
     let a = s.answer;
     let code = a.number();
     let count = a.rows();
-    say(n, code, count);
+    say(rt, n, code, count)?;
     if n < 2 {
-        check::expect(same_rows(rows, marked()));
-        check::expect(code == 6);
-        return;
+        let kept = same_rows(rows, marked());
+        prove!(kept);
+        prove!(code == 6);
+        return Ok(());
     }
-    check::expect(same_rows(rows, paged_rows()));
-    check::expect(code == 0);
-    check::expect(count == 2);
-    check::expect(a.more());
+    let written = same_rows(rows, paged_rows());
+    prove!(written);
+    prove!(code == 0);
+    prove!(count == 2);
+    let more = a.more();
+    prove!(more);
+    Ok(())
 }
 
 // ---- refusals
@@ -276,62 +278,67 @@ fn bad_book() -> Book {
 }
 
 // One line: the call, the number returned, and whether all eight records are as they were.
-fn tell(call: &[u8], code: u8, kept: bool) {
-    io::write_all(1, call);
-    io::write_all(1, b" ");
-    io::print_decimal(1, code as u64);
+fn tell(rt: &impl Print, call: &[u8], code: u8, kept: bool) -> io::Result<()> {
+    rt.write_all(call)?;
     if kept {
-        io::write_all(1, b", unchanged\n");
+        println!(rt; " {code}, unchanged")
     } else {
-        io::write_all(1, b", changed\n");
+        println!(rt; " {code}, changed")
     }
 }
 
-fn refused_plan(m: Map, b: Book, start: u32, destination: u32, second: u32) {
+fn refused_plan(
+    rt: &impl Print,
+    m: Map,
+    b: Book,
+    start: u32,
+    destination: u32,
+    second: u32,
+) -> io::Result<()> {
     let s = lend_plan(m, b, start, destination, second, marked(), 8);
     let rows = s.rows;
     let a = s.answer;
     let kept = same_rows(rows, marked());
-    tell(b"plan", a.number(), kept);
+    tell(rt, b"plan", a.number(), kept)
 }
 
-fn refused_page(m: Map, b: Book, size: u32, c: Cursor) {
+fn refused_page(rt: &impl Print, m: Map, b: Book, size: u32, c: Cursor) -> io::Result<()> {
     let s = lend_page(m, b, size, c, marked(), 8);
     let rows = s.rows;
     let a = s.answer;
     let kept = same_rows(rows, marked());
-    tell(b"page", a.number(), kept);
+    tell(rt, b"page", a.number(), kept)
 }
 
 // Each refusal but 6, which lists that are too short have shown.
-fn refusals() {
+fn refusals(rt: &impl Print) -> io::Result<()> {
     let m = barn();
     let b = booked();
-    refused_plan(bad_map(), b, 0, 3, 10);
-    refused_plan(m, bad_book(), 0, 3, 10);
-    refused_plan(m, b, 0, 4, 10);
-    refused_plan(m, b, 0, 3, 86401);
-    refused_plan(m, b, 0, 3, 0);
+    refused_plan(rt, bad_map(), b, 0, 3, 10)?;
+    refused_plan(rt, m, bad_book(), 0, 3, 10)?;
+    refused_plan(rt, m, b, 0, 4, 10)?;
+    refused_plan(rt, m, b, 0, 3, 86401)?;
+    refused_plan(rt, m, b, 0, 3, 0)?;
     let first = Cursor::first();
     let off = Cursor {
         place: 4,
         entry: 0,
         ticket: 0,
     };
-    refused_page(bad_map(), b, 2, first);
-    refused_page(m, bad_book(), 2, first);
-    refused_page(m, b, 65, first);
-    refused_page(m, b, 2, off);
+    refused_page(rt, bad_map(), b, 2, first)?;
+    refused_page(rt, m, bad_book(), 2, first)?;
+    refused_page(rt, m, b, 65, first)?;
+    refused_page(rt, m, b, 2, off)
 }
 
-fn main() {
-    check_plan(0);
-    check_plan(2);
-    check_plan(3);
-    check_plan(8);
-    check_page(0);
-    check_page(1);
-    check_page(2);
-    check_page(8);
-    refusals();
+fn main(rt: HostRuntime) -> io::Result<()> {
+    check_plan(&rt, 0)?;
+    check_plan(&rt, 2)?;
+    check_plan(&rt, 3)?;
+    check_plan(&rt, 8)?;
+    check_page(&rt, 0)?;
+    check_page(&rt, 1)?;
+    check_page(&rt, 2)?;
+    check_page(&rt, 8)?;
+    refusals(&rt)
 }
