@@ -1,0 +1,16 @@
+-- `booking::cancel` meets its contract: what the survey refuses is refused, and what is sound is cancelled in.
+use mathlib.Core.Path.{refl}
+use borrow.Author.Rules.{rules}
+use Rattle.laws.specs.Lists.{zeros}
+use Rattle.rules.specs.Gate.Checked.{sound}
+use Rattle.vet.specs.Vetted.{vetted_refused, vetted_sound}
+use Rattle.booking.specs.Cancelling.{cancel_refused}
+use Rattle.booking.proofs.cancel.Goals as goal
+
+pub survey-v-requires : goal.survey-v-requires
+survey-v-requires c =
+    record { cap_len = (refl, refl, refl, refl); head_len = (refl, refl, zeros 256); key_len = (refl, refl); by_index = zeros 1024; place_len = (refl, refl, refl, refl) }
+
+pub returns-in-Refused : goal.returns-in-Refused
+returns-in-Refused c =
+    vetted_refused c.survey-v.ensures c.v-1.given.1 cancel_refused

@@ -1,0 +1,29 @@
+-- `booking::enter_rows` meets its contract: the outer loop keeps `Inserting`, that the first k of the path's rows are put in and the others can be too;
+-- in the inner one the rows from j on are moved up by one and are above the new row, which goes where it ends.
+use Prim.Native.Nat.{ℕ, ◌-◌, ◌<◌}
+use mathlib.Core.Path.{◌≡◌, sym, ap, ◌∙◌}
+use mathlib.Core.Logic.{⊎_elim}
+use native.Mathlib.Omega.{arith}
+use lib.ListN.{length, take}
+use borrow.Author.Rules.{rules}
+use borrow.Author.Tests.{not-true, not-false}
+use Rattle.rules.specs.Rows.{row_key, row_at, lessb}
+use Rattle.rules.specs.Plan.{run_rows}
+use Rattle.rules.specs.Book.{rows_of}
+use Rattle.planner.specs.Choice.{plan_of}
+use Rattle.planner.specs.Route.{path_rows}
+use Rattle.ledger.specs.Insert.{Shifted, shift_none, shift_next, shift_done}
+use Rattle.ledger.specs.Inserting.{Inserting, inserted_ready, inserted_long, inserted_next, inserted_all}
+use Rattle.booking.proofs.enter_rows.Given as goal
+
+abbrev pub invariant-loop-j : goal.invariant-loop-j
+invariant-loop-j l = Shifted l.r l.initial.out l.out l.j
+
+abbrev pub decreases-loop-j : goal.decreases-loop-j
+decreases-loop-j l = l.j
+
+abbrev pub invariant-loop-k : goal.invariant-loop-k
+invariant-loop-k l = Inserting (run_rows l.ticket (plan_of l.dur l.place l.label (take l.count l.path))) (rows_of l.initial.out) l.initial.out.next_ticket l.k l.out
+
+abbrev pub decreases-loop-k : goal.decreases-loop-k
+decreases-loop-k l = l.count - l.k
