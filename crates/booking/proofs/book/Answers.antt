@@ -12,8 +12,8 @@ survey-v-requires c =
 
 pub book_sound-requires : goal.book_sound-requires
 book_sound-requires c =
-    (vetted_sound c.survey-v.ensures c.v-in-Sound-1.given.1).2.1
+    (vetted_sound c.survey-v.ensures c.in-Sound.is).2.1
 
 pub returns-in-Refused : goal.returns-in-Refused
 returns-in-Refused c =
-    vetted_refused c.survey-v.ensures c.v-1.given.1 book_refused
+    vetted_refused c.survey-v.ensures c.in-Refused.is book_refused

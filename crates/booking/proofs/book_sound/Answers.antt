@@ -1,8 +1,9 @@
 -- `booking::book_sound` meets its contract: each refusal's test is its condition, and where none holds the rows of the chosen plan are put in under the
 -- next ticket, which goes up.
-use Prim.Native.Nat.{◌<◌}
+use Prim.Native.Nat.{ℕ, ◌<◌}
 use mathlib.Core.Path.{◌≡◌, refl, sym, ap, ◌∙◌}
 use native.Mathlib.Omega.{arith}
+use mathlib.Core.List.{List}
 use lib.ListN.{length, get_or-replicate}
 use borrow.Author.Rules.{rules}
 use Rattle.rules.specs.declared.Row.{Row}
@@ -14,31 +15,26 @@ use Rattle.booking.specs.Found.{room_there, found_fits, none_found, found_chosen
 use Rattle.booking.specs.Booking.{book_off_map, book_off_day, book_no_tickets, book_no_plan, book_full, book_done}
 use Rattle.booking.proofs.book_sound.Goals as goal
 
-places : (s : tie.Start) → length (places_in s.args.cap.now s.args.dur.now s.args.n) ≡ s.args.n
-places s = places_long s.args.cap.now s.args.dur.now s.args.n
-
-
-on_map : (s : tie.Start) → s.args.origin < s.args.n → s.args.dest < s.args.n
-    → (s.args.origin < length (places_in s.args.cap.now s.args.dur.now s.args.n)) × (s.args.dest < length (places_in s.args.cap.now s.args.dur.now s.args.n))
-on_map s h k = let l = places s in (omega arith, omega arith)
+on_map : (C D : List ℕ) (n a z : ℕ) → a < n → z < n → (a < length (places_in C D n)) × (z < length (places_in C D n))
+on_map C D n a z h k = let l = places_long C D n in (omega arith, omega arith)
 
 pub returns-then-a-n : goal.returns-then-a-n
 returns-then-a-n c =
-    let l = places c in
+    let l = places_long c.args.cap.now c.args.dur.now c.args.n in
     book_off_map (λ h. let x = h.0 in omega (arith, c.if-a-n.true))
 
 pub returns-then-z-n : goal.returns-then-z-n
 returns-then-z-n c =
-    let l = places c in
+    let l = places_long c.args.cap.now c.args.dur.now c.args.n in
     book_off_map (λ h. let x = h.1 in omega (arith, c.if-z-n.true))
 
 pub returns-then-s-gt-DAY : goal.returns-then-s-gt-DAY
 returns-then-s-gt-DAY c =
-    book_off_day (on_map c c.if-a-n.false c.if-z-n.false) c.if-s-gt-DAY.true
+    book_off_day (on_map c.args.cap.now c.args.dur.now c.args.n c.args.origin c.args.dest c.if-a-n.false c.if-z-n.false) c.if-s-gt-DAY.true
 
 pub returns-then-ticket-ge-TICKETS : goal.returns-then-ticket-ge-TICKETS
 returns-then-ticket-ge-TICKETS c =
-    book_no_tickets (on_map c c.if-a-n.false c.if-z-n.false) c.if-s-gt-DAY.false c.if-ticket-ge-TICKETS.true
+    book_no_tickets (on_map c.args.cap.now c.args.dur.now c.args.n c.args.origin c.args.dest c.if-a-n.false c.if-z-n.false) c.if-s-gt-DAY.false c.if-ticket-ge-TICKETS.true
 
 pub route-c-requires : goal.route-c-requires
 route-c-requires c =
@@ -49,13 +45,13 @@ route-c-requires c =
 
 pub returns-then-c-eq0 : goal.returns-then-c-eq0
 returns-then-c-eq0 c =
-    let o = on_map c c.if-a-n.false c.if-z-n.false in
+    let o = on_map c.args.cap.now c.args.dur.now c.args.n c.args.origin c.args.dest c.if-a-n.false c.if-z-n.false in
     let none = none_found c.requires c.route-c.ensures c.if-c-eq0.true in
     book_no_plan o c.if-s-gt-DAY.false c.if-ticket-ge-TICKETS.false none
 
 pub returns-then-rows-c-gt-ROWS : goal.returns-then-rows-c-gt-ROWS
 returns-then-rows-c-gt-ROWS c =
-    let o = on_map c c.if-a-n.false c.if-z-n.false in
+    let o = on_map c.args.cap.now c.args.dur.now c.args.n c.args.origin c.args.dest c.if-a-n.false c.if-z-n.false in
     let Q = c.requires in
     let R = c.route-c.ensures in
     let h : 0 < c.route-c.result = omega (arith, c.if-c-eq0.false) in
@@ -74,14 +70,14 @@ step_at-last-requires c =
 
 pub enter_rows-entered-requires : goal.enter_rows-entered-requires
 enter_rows-entered-requires c =
-    let o = on_map c c.if-a-n.false c.if-z-n.false in
+    let o = on_map c.args.cap.now c.args.dur.now c.args.n c.args.origin c.args.dest c.if-a-n.false c.if-z-n.false in
     let Q = c.requires in
     let R = c.route-c.ensures in
     record { path_fits = found_fits Q R; inserting = found_enters Q R (omega (arith, c.if-c-eq0.false)) o.1 c.if-rows-c-gt-ROWS.false }
 
 pub returns : goal.returns
 returns c =
-    let o = on_map c c.if-a-n.false c.if-z-n.false in
+    let o = on_map c.args.cap.now c.args.dur.now c.args.n c.args.origin c.args.dest c.if-a-n.false c.if-z-n.false in
     let Q = c.requires in
     let R = c.route-c.ensures in
     let A = found_fits Q R in

@@ -13,4 +13,4 @@ survey-v-requires c =
 
 pub returns-in-Refused : goal.returns-in-Refused
 returns-in-Refused c =
-    vetted_refused c.survey-v.ensures c.v-1.given.1 cancel_refused
+    vetted_refused c.survey-v.ensures c.in-Refused.is cancel_refused

@@ -1,0 +1,27 @@
+-- `portal::lanebook_plan` meets its contract: the arrays are the slices, or break a rule where the slices' shape does, so that one call of
+-- planning over them decides all; its answer's count is at most the records of the caller's list and the rows of a book together, so that the
+-- packed number overflows nowhere.
+use Prim.Native.Nat.{◌<◌}
+use mathlib.Core.Path.{refl}
+use native.Mathlib.Omega.{arith}
+use lib.ListN.{length}
+use borrow.Author.Rules.{rules}
+use Rattle.laws.specs.Lists.{zeros}
+use Rattle.portal.specs.Read.{portal_plan}
+use Rattle.desk.specs.Few.{plan_few}
+use Rattle.portal.proofs.lanebook_plan.Goals as goal
+
+room : (s : tie.Start) → length s.args.answer.now < 18446744073709551616
+room s = s.well-formed.1.1.1.1.1.0.0
+
+pub read_book-b-requires : goal.read_book-b-requires
+read_book-b-requires c =
+    record { key_len = refl; tail_len = refl; by_index = zeros 1024 }
+
+pub packed_plan-requires : goal.packed_plan-requires
+packed_plan-requires c =
+    omega (arith, room s, plan_few (λ C. C.few) c.plan_flat-p.ensures)
+
+pub returns : goal.returns
+returns c =
+    portal_plan c.read_map-m.ensures c.read_book-b.ensures c.plan_flat-p.ensures c.packed_plan.ensures
