@@ -11,16 +11,14 @@ use Rattle.portal.specs.Read.{portal_plan}
 use Rattle.desk.specs.Few.{plan_few}
 use Rattle.portal.proofs.lanebook_plan.Goals as goal
 
-room : (s : tie.Start) → length s.args.answer.now < 18446744073709551616
-room s = s.well-formed.1.1.1.1.1.0.0
-
 pub read_book-b-requires : goal.read_book-b-requires
 read_book-b-requires c =
     record { key_len = refl; tail_len = refl; by_index = zeros 1024 }
 
 pub packed_plan-requires : goal.packed_plan-requires
 packed_plan-requires c =
-    omega (arith, room s, plan_few (λ C. C.few) c.plan_flat-p.ensures)
+    let room : length c.args.answer.now < 18446744073709551616 = c.well_formed.1.1.1.1.1.0.0 in
+    omega (arith, room, plan_few (λ C. C.few) c.plan_flat-p.ensures)
 
 pub returns : goal.returns
 returns c =

@@ -1,0 +1,15 @@
+-- `frames::fed` meets its contract: each turn takes the bytes to the next line feed and puts the line's answer behind those there are, while there is room.
+use Prim.Native.Nat.{◌-◌, ◌<◌}
+use mathlib.Core.Path.{sym, ◌∙◌}
+use native.Mathlib.Omega.{arith}
+use lib.ListN.{length}
+use borrow.Author.Rules.{rules}
+use borrow.Author.Tests.{not-true, not-false}
+use Rattle.frames.specs.Cutting.{Feeding, feeding_start, feeding_next, fed_is, step_going, step_answered}
+use Rattle.frames.proofs.fed.Given as goal
+
+abbrev pub invariant-loop-i : goal.invariant-loop-i
+invariant-loop-i l = Feeding (record { state = l.initial.s; line = l.initial.begun }) l.buf l.from l.initial.out (record { state = l.s; line = l.begun }) l.i l.at l.out
+
+abbrev pub decreases-loop-i : goal.decreases-loop-i
+decreases-loop-i l = length l.buf - l.i
