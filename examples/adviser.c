@@ -6,7 +6,7 @@
  * barn's own desk does between an adviser's pages: nothing proves these few lines, which change a
  * slice by hand. An adviser in a barn holds a copy of the desk's book and changes nothing in it.
  *
- *     gcc -std=c99 -Iinclude examples/adviser.c target/staticlib/libportal.a -o adviser
+ *     gcc -std=c99 -Iinclude examples/adviser.c crates/portal/out/libportal.a -o adviser
  */
 #include <inttypes.h>
 #include <stdio.h>

@@ -11,7 +11,7 @@
  * rows themselves. Where it finds none it says what the library said. It ends with 0 where the book is good, 1 where map or book is wrong,
  * and 2 where a file cannot be read as one.
  *
- *     gcc -std=c99 -Iinclude examples/installer.c target/staticlib/libportal.a -o installer
+ *     gcc -std=c99 -Iinclude examples/installer.c crates/portal/out/libportal.a -o installer
  */
 #include <errno.h>
 #include <inttypes.h>

@@ -6,7 +6,7 @@
  * but memset, so several threads may call them at once. A thread that calls them should have
  * 128 KiB of stack to spare.
  *
- * Link with target/staticlib/libportal.a, which `rt staticlib portal` writes; no other library
+ * Link with crates/portal/out/libportal.a, which `rt lib` writes in crates/portal; no other library
  * is needed (x86-64 Linux).
  *
  * SLICES. A slice is a pointer and a length in bytes. Numbers stand high byte first; the width

@@ -5,21 +5,30 @@
 
 use std::fs::read_to_string;
 
-/// The source without its ghost lines and its contracts.
+/// Whether a line begins a clause of a contract: `requires {` or `ensures {`, or with a name before the brace.
+fn begins_clause(text: &str) -> bool {
+    let Some(rest) = text.strip_prefix("requires ").or_else(|| text.strip_prefix("ensures ")) else { return false };
+    let name = rest.split('{').next().unwrap_or("").trim_end();
+    rest.contains('{') && name.chars().all(|c| c.is_ascii_alphanumeric() || c == '_')
+}
+
+/// The source without its ghost lines, its contracts and what it says to the prover.
 fn plain(source: &str) -> String {
     let mut kept = String::new();
     let mut depth = 0i32;
     let mut ghost = false;
     for line in source.lines() {
         let text = line.trim_start();
-        let contract = text.starts_with("requires {") || text.starts_with("ensures {");
-        if contract || depth > 0 {
+        if begins_clause(text) || depth > 0 {
             depth += text.matches('{').count() as i32 - text.matches('}').count() as i32;
             continue;
         }
         if ghost || text.starts_with("ghost ") {
             ghost = !text.ends_with(';');
             continue;
+        }
+        if text.starts_with("#![tactic(") || text.starts_with("#[derive(") {
+            continue; // each type is `Copy` here (below)
         }
         kept.push_str(line);
         kept.push('\n');

@@ -150,10 +150,7 @@ rings = (wide, wide_cases) ∷ (detour, detour_cases) ∷ (narrow, narrow_cases)
 abbrev ring_b : Barn × List Case → Bool
 ring_b x = table_b x.0 x.1
 
-rings_test : all_b ring_b rings ≡ true
-unfolding table_b
-rings_test = refl
-
 -- all of them hold
 pub rings_hold : (x : Barn × List Case) → Memᴰ x rings → (c : Case) → Memᴰ c x.1 → Means x.0 c
-rings_hold x m = table_means x.0 x.1 (all_out ring_b rings rings_test x m)
+unfolding table_b
+rings_hold x m = table_means x.0 x.1 (all_out ring_b rings refl x m)

@@ -70,13 +70,10 @@ table =
     ∷ pages (cancelled both 1) 2 (key 0 0 2) (row 2 10 2 40 3 ∷ row 3 40 2 50 3 ∷ []) false
     ∷ []
 
-table_test : table_b barn table ≡ true
-unfolding table_b
-table_test = refl
-
 -- the table holds, as a whole
 pub table_holds : (c : Case) → Memᴰ c table → Means barn c
-table_holds = table_means barn table table_test
+unfolding table_b
+table_holds = table_means barn table refl
 
 -- case 8 whatever the start, the second and the book's past
 pub destination_4 : (h : Past) → past_b barn h ≡ true → (start s : ℕ) → Refuses barn h start 4 s off_map
