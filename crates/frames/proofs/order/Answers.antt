@@ -1,0 +1,14 @@
+-- `frames::order` meets its contract: what a decoder's own function answers is what the line answers, and the decoders left out change neither map nor book.
+use mathlib.Core.Path.{refl}
+use borrow.Author.Rules.{rules}
+use Rattle.frames.specs.Told.{spoken_so}
+use Rattle.frames.specs.Answering.{no_order}
+use Rattle.frames.proofs.order.Goals as goal
+
+pub returns-in-Place : goal.returns-in-Place
+returns-in-Place c =
+    λ q l W. spoken_so (W.place c.enum_told-1.given.1 c.args.s) c.place_frame.ensures
+
+pub returns-in-Link : goal.returns-in-Link
+returns-in-Link c =
+    λ q l W. spoken_so (W.link c.enum_told-in-Link-1.given.1 c.args.s) c.link_frame.ensures

@@ -1,0 +1,26 @@
+-- `frames::plan_frame` meets its contract: the plan's first line and its rows from the list that planning wrote.
+use Prim.Native.Nat.{ℕ}
+use mathlib.Core.Path.{◌≡◌}
+use native.Mathlib.Omega.{arith}
+use lib.ListN.{length}
+use borrow.Author.Rules.{rules}
+use lib.ListN.{length-replicate}
+use Rattle.rules.specs.Bytes.{list_size}
+use Rattle.desk.specs.Few.{plan_within}
+use Rattle.frames.specs.Frames.{plan_frame_lem}
+use Rattle.frames.proofs.plan_frame.Goals as goal
+
+pub returns : goal.returns
+returns c =
+    let a = c.args in
+    let p = c.plan-p in
+    let h = c.plan_head-h in
+    let n = c.rows-rows in
+    let k : length p.new.1.1.1.1.1.0 ≡ list_size = p.auto.1.1.1.1.1.0 in
+    let f = plan_within p.ensures in
+    let l = length-replicate {A = ℕ} list_size 0 in
+    plan_frame_lem a.s a.b.now h.result p.result p.new.1.1.1.1.1.0 n.result
+    c.wide-start.ensures
+    c.wide-destination.ensures
+    c.three-second.ensures.0
+    p.ensures (omega (arith, n.ensures)) k n.ensures h.ensures c.put_answer.ensures

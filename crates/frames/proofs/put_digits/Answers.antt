@@ -1,0 +1,14 @@
+-- `frames::put_digits` meets its contract: after i turns the digits of the first i bytes are put, and each turn puts those of one more.
+use Prim.Native.Nat.{◌-◌, ◌≤◌}
+use mathlib.Core.Path.{◌≡◌}
+use native.Mathlib.Omega.{arith}
+use Rattle.frames.specs.Put.{Digits, digits_start, digits_next}
+use Rattle.frames.proofs.put_digits.Goals as goal
+
+pub loop-i-init : goal.loop-i-init
+loop-i-init c =
+    (omega arith, digits_start _ _ _ _)
+
+pub loop-i-preserved : goal.loop-i-preserved
+loop-i-preserved c =
+    (omega arith, digits_next (omega arith) (omega arith) c.loop-i.invariant.1 c.put_byte.ensures)

@@ -1,0 +1,8 @@
+-- `frames::refused` meets its contract: the line 0C, and the state as it was.
+use borrow.Author.Rules.{rules}
+use Rattle.frames.specs.Frames.{refused_line}
+use Rattle.frames.proofs.refused.Goals as goal
+
+pub returns : goal.returns
+returns c =
+    refused_line c.args.s c.put_number-len.ensures

@@ -1,0 +1,21 @@
+-- `records::find_page` meets its contract: the page is asked for with the front of a list of 1,280 packed rows, and its rows are read back from there.
+use mathlib.Core.List.{List}
+use Prim.Native.Nat.{ℕ}
+use mathlib.Core.Path.{◌≡◌}
+use lib.ListN.{length, replicate, length-replicate}
+use borrow.Author.Rules.{rules}
+use Rattle.rules.specs.Bytes.{list_size}
+use Rattle.records.specs.Found.{lent_fits, lent_length, lent_back, page_readable, page_front}
+use Rattle.records.proofs.find_page.Goals as goal
+
+abbrev list : List ℕ
+list = replicate list_size 0
+
+
+long : length list ≡ list_size
+long = length-replicate {A = ℕ} list_size 0
+
+pub returns : goal.returns
+returns c =
+    page_front c.lent-n.ensures list long c.page-a.ensures
+    c.rows-count.ensures c.read_rows-rows.ensures
