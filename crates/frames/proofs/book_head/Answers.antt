@@ -6,4 +6,4 @@ use Rattle.frames.proofs.book_head.Goals as goal
 
 pub returns-in-Refused : goal.returns-in-Refused
 returns-in-Refused c =
-    rw c.b-in-Refused-1.given.1 (c.refused_head_lem.ensures _)
+    rw c.in-Refused.is (c.refused_head.ensures _)

@@ -9,23 +9,23 @@ use Rattle.frames.proofs.bytes_of.Goals as goal
 
 pub returns-then-n-gt18 : goal.returns-then-n-gt18
 returns-then-n-gt18 c =
-    too_long c.args.t1 (omega arith) (λ i. omega (arith, zeros 9 i)) refl
+    too_long c.args.l (omega arith) (λ i. omega (arith, zeros 9 i)) refl
 
 pub returns-then-n-ne0 : goal.returns-then-n-ne0
 returns-then-n-ne0 c =
-    odd_length c.args.t1 (search rules) (omega arith) (λ e. omega arith) (λ i. omega (arith, zeros 9 i)) refl
+    odd_length c.args.l (search rules) (omega arith) (λ e. omega arith) (λ i. omega (arith, zeros 9 i)) refl
 
 pub loop-i-init : goal.loop-i-init
 loop-i-init c =
-    (omega arith, read_start c.args.t1.digits _ (zeros 9) refl)
+    (omega arith, read_start c.args.l.digits _ (zeros 9) refl)
 
 pub returns-then-high-gt15 : goal.returns-then-high-gt15
 returns-then-high-gt15 c =
-    bad_high c.args.t1 c.loop-i.i (search rules) (omega arith) (omega arith) c.loop-i.invariant.1.are_bytes c.loop-i.invariant.1.long c.value-high.ensures (omega arith)
+    bad_high c.args.l c.loop-i.i (search rules) (omega arith) (omega arith) c.loop-i.invariant.1.are_bytes c.loop-i.invariant.1.long c.value-high.ensures (omega arith)
 
 pub returns-then-low-gt15 : goal.returns-then-low-gt15
 returns-then-low-gt15 c =
-    bad_low c.args.t1 c.loop-i.i (search rules) (omega arith) (omega arith) c.loop-i.invariant.1.are_bytes c.loop-i.invariant.1.long c.value-low.ensures (omega arith)
+    bad_low c.args.l c.loop-i.i (search rules) (omega arith) (omega arith) c.loop-i.invariant.1.are_bytes c.loop-i.invariant.1.long c.value-low.ensures (omega arith)
 
 pub loop-i-preserved : goal.loop-i-preserved
 loop-i-preserved c =
@@ -33,5 +33,5 @@ loop-i-preserved c =
 
 pub returns : goal.returns
 returns c =
-    let e : c.loop-i.i ≡ c.args.t1.len / 2 = omega arith in
+    let e : c.loop-i.i ≡ c.args.l.len / 2 = omega arith in
     read_all (omega arith) (omega arith) (rw e at c.loop-i.invariant.1)

@@ -11,9 +11,6 @@ use Rattle.frames.specs.Told.{silent}
 use Rattle.frames.specs.Cutting.{nothing_begun, fed_silent, fed_ended}
 use Rattle.frames.proofs.ended.Goals as goal
 
-long-digits : (s : tie.Start) → length s.args.d.line.digits ≡ 18
-long-digits s = search (s.well-formed.0.1.1.1.0, rules)
-
 pub returns-then-line-eq0 : goal.returns-then-line-eq0
 returns-then-line-eq0 c =
     let a = c.args in
@@ -26,7 +23,8 @@ pub returns : goal.returns
 returns c =
     let a = c.args in
     let f = c.fed-f.ensures in
+    let n : length a.d.line.digits ≡ 18 = search (c.well_formed.0.1.1.1.0, rules) in
     ⊎_elim
     (λ (h : length a.out.now < answer_room). inl ((λ k. omega arith), fed_silent a.d f h))
-    (λ (h : answer_room ≤ length a.out.now). inr (h, fed_ended a.d f h (long-digits s) c.if-line-eq0.false))
+    (λ (h : answer_room ≤ length a.out.now). inr (h, fed_ended a.d f h n c.if-line-eq0.false))
     (lt_or_ge (length a.out.now) answer_room)

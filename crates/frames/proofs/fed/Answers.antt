@@ -8,9 +8,6 @@ use borrow.Author.Tests.{not-true, not-false}
 use Rattle.frames.specs.Cutting.{Feeding, feeding_start, feeding_next, fed_is, step_going, step_answered}
 use Rattle.frames.proofs.fed.Goals as goal
 
-room : (s : tie.Start invariant-loop decreases-loop) → length s.args.out.now < 18446744073709551616
-room s = let g = s.well-formed.1.1.1.0 in omega arith
-
 pub loop-i-init : goal.loop-i-init
 loop-i-init c =
     feeding_start _ _ _ _
@@ -31,7 +28,7 @@ loop-i-preserved-then-changes c =
     let a = k.ensures (sym c.changes.ensures ∙ c.if-changes.true) _ c.word_of-w.ensures in
     let r = c.if-out-at-lt-ANSWER.false in
     feeding_next l.invariant c.loop-i-test.true (omega (arith, r, l.invariant.fits, l.invariant.put.long))
-    (step_answered _ _ _ _ _ k.new.1.1.0 t.ensures c.if-not-c.false (omega (arith, r, l.invariant.fits, l.invariant.put.long)) a c.no_digits-next.ensures (search rules))
+    (step_answered _ _ _ _ _ k.new.out t.ensures (not-false t.result.ended c.if-not-c.false) (omega (arith, r, l.invariant.fits, l.invariant.put.long)) a c.no_digits-next.ensures (search rules))
 
 pub loop-i-preserved : goal.loop-i-preserved
 loop-i-preserved c =
@@ -41,4 +38,4 @@ loop-i-preserved c =
     let a = k.ensures (sym c.changes.ensures ∙ c.if-changes.false) _ c.word_of-w.ensures in
     let r = c.if-out-at-lt-ANSWER.false in
     feeding_next l.invariant c.loop-i-test.true (omega (arith, r, l.invariant.fits, l.invariant.put.long))
-    (step_answered _ _ _ _ _ k.new.1.1.0 t.ensures c.if-not-c.false (omega (arith, r, l.invariant.fits, l.invariant.put.long)) a c.no_digits-next.ensures (search rules))
+    (step_answered _ _ _ _ _ k.new.out t.ensures (not-false t.result.ended c.if-not-c.false) (omega (arith, r, l.invariant.fits, l.invariant.put.long)) a c.no_digits-next.ensures (search rules))

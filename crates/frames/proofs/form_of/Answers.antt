@@ -50,5 +50,4 @@ returns-in-0 c =
 
 pub returns-in-0-2 : goal.returns-in-0-2
 returns-in-0-2 c =
-    let r = c.in-0.rest in
-    form_unknown c.args.kind r.0.0.0.0.0.0.1 r.0.0.0.0.0.1 r.0.0.0.0.1 r.0.0.0.1 r.0.0.1 r.0.1
+    form_unknown c.args.kind (λ e. omega arith) (λ e. omega arith) (λ e. omega arith) (λ e. omega arith) (λ e. omega arith) (λ e. omega arith)

@@ -7,8 +7,8 @@ use Rattle.frames.proofs.order.Goals as goal
 
 pub returns-in-Place : goal.returns-in-Place
 returns-in-Place c =
-    λ q l W. spoken_so (W.place c.enum_told-1.given.1 c.args.s) c.place_frame.ensures
+    λ q l W. spoken_so (W.place c.in-Place.is c.args.s) c.place_frame.ensures
 
 pub returns-in-Link : goal.returns-in-Link
 returns-in-Link c =
-    λ q l W. spoken_so (W.link c.enum_told-in-Link-1.given.1 c.args.s) c.link_frame.ensures
+    λ q l W. spoken_so (W.link c.in-Link.is c.args.s) c.link_frame.ensures

@@ -17,7 +17,7 @@ put_answer-requires c =
     let p = c.page-p in
     let h = c.page_head-h.ensures in
     let n = c.rows-rows.ensures in
-    let k : length p.new.1.1.1.1.0 ≡ list_size = p.auto.1.1.1.1.0 in
+    let k : length p.new.out ≡ list_size = p.auto.out in
     let f = (page_within p.ensures).1 in
     record { count_bound = (h.fits, h.long); rows_in_bounds = omega arith; rows_in_bounds_2 = omega arith }
 
@@ -27,9 +27,9 @@ returns c =
     let p = c.page-p in
     let h = c.page_head-h in
     let n = c.rows-rows in
-    let k : length p.new.1.1.1.1.0 ≡ list_size = p.auto.1.1.1.1.0 in
+    let k : length p.new.out ≡ list_size = p.auto.out in
     let f = (page_within p.ensures).1 in
-    page_frame_lem a.s a.b.now h.result p.result p.new.1.1.1.1.0 n.result
+    page_frame_lem a.s a.b.now h.result p.result p.new.out n.result
     c.wide-size.ensures
     c.wide-place.ensures
     c.three-entry.ensures.0

@@ -7,4 +7,4 @@ use Rattle.frames.proofs.page_head.Goals as goal
 
 pub returns-in-Refused : goal.returns-in-Refused
 returns-in-Refused c =
-    rw c.p-in-Refused-1.given.1 (c.refused_head_lem.ensures _)
+    rw c.in-Refused.is (c.refused_head.ensures _)

@@ -16,10 +16,10 @@ returns c =
     let p = c.plan-p in
     let h = c.plan_head-h in
     let n = c.rows-rows in
-    let k : length p.new.1.1.1.1.1.0 ≡ list_size = p.auto.1.1.1.1.1.0 in
+    let k : length p.new.out ≡ list_size = p.auto.out in
     let f = plan_within p.ensures in
     let l = length-replicate {A = ℕ} list_size 0 in
-    plan_frame_lem a.s a.b.now h.result p.result p.new.1.1.1.1.1.0 n.result
+    plan_frame_lem a.s a.b.now h.result p.result p.new.out n.result
     c.wide-start.ensures
     c.wide-destination.ensures
     c.three-second.ensures.0

@@ -6,4 +6,4 @@ use Rattle.frames.proofs.put_answer.Goals as goal
 
 pub returns : goal.returns
 returns c =
-    answer_lines c.args.h.bytes c.args.list.now c.args.h.count c.args.rows (omega arith) (omega arith) (omega arith) c.put_line_lem.ensures c.put_rows.ensures
+    answer_lines c.args.h.bytes c.args.list.now c.args.h.count c.args.rows (omega arith) (omega arith) (omega arith) c.put_line.ensures c.put_rows.ensures

@@ -7,4 +7,4 @@ use Rattle.frames.proofs.put_number.Goals as goal
 pub returns : goal.returns
 unfolding hex_of
 returns c =
-    record { put = c.put_line_lem.ensures; count = refl }
+    record { put = c.put_line.ensures; count = refl }
