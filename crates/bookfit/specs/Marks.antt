@@ -1,6 +1,6 @@
 -- The loops over a book's rows: the successors of the rows met so far are marked, and so are the slots of the tickets whose last row was met. What a row is found
 -- to be, and the marks after it.
-use Rattle.std.specs.Prelude.{ℕ, ◌+◌, ◌-◌, ◌%◌, ◌≤◌, ◌<◌, ◌≡◌, refl, Bool, true, false, not, List, length, get_or, set, eqb}
+use Rattle.std.specs.Prelude.{ℕ, ◌+◌, ◌%◌, ◌≤◌, ◌<◌, ◌≡◌, refl, Bool, true, false, not, List, length, get_or, set, eqb}
 use Rattle.std.proofs.Common.{sym, ap, subst, ◌∙◌, ⊎_elim, arith, length-set, get_or-set_same, get_or-set_other, eq-eqb, eqb-true}
 use Rattle.laws.specs.Order.{lt_or_ge, eq_or_ne}
 use Rattle.laws.specs.Tests.{not_both}

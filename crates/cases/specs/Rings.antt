@@ -1,9 +1,9 @@
 -- Cases of rings, on six small maps: booked crossings of one second lead from where a wagon goes back to where it comes from, or fall short of
 -- that. They hold as a whole, by the test of the nine.
-use Rattle.std.specs.Prelude.{ℕ, ◌+◌, ◌≡◌, refl, Bool, true}
+use Rattle.std.specs.Prelude.{ℕ, ◌+◌, refl, Bool}
 use mathlib.Core.List.{List, [], ◌∷◌, Memᴰ}
 use Rattle.rules.specs.Plan.{Stay}
-use Rattle.cases.specs.Checks.{all_b, all_out}
+use Rattle.cases.specs.Checks.{all_out}
 use Rattle.cases.specs.Maps.{place, link, Barn}
 use Rattle.cases.specs.Past.{Past, empty, booked, cancelled}
 use Rattle.cases.specs.Case.Reason.{no_plan}

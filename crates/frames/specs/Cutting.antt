@@ -8,7 +8,6 @@ use borrow.Rule.Slice.PartMut.{put_mid}
 use Rattle.laws.specs.Order.{lt_or_ge}
 use Rattle.rules.specs.declared.State.{State}
 use Rattle.rules.specs.Bytes.{answer_room}
-use Rattle.rules.specs.Gate.{Unless}
 use Rattle.rules.specs.Frames.{LineSays, LinesSay, whole_lines, begun_line, last_line, all_lines, begins}
 use Rattle.rules.specs.Frames.LinesSay.{none, more}
 use Rattle.unique.specs.Line.{no_second_lines}

@@ -1,6 +1,6 @@
 -- A line in a fixed buffer of 18 digits, and the bytes read from it. No frame has more than 18 digits, so a longer line need not be kept.
 -- Two digits a turn give a byte; where a digit is none, or their number is odd, the line is the digits of no bytes.
-use Rattle.std.specs.Prelude.{ℕ, suc, ◌+◌, ◌*◌, ◌/◌, ◌%◌, ◌≤◌, ◌<◌, ◌≡◌, refl, Bool, true, false, List, [], ◌∷◌, ◌++◌, length, get_or, take, set, replicate, leb}
+use Rattle.std.specs.Prelude.{ℕ, suc, ◌+◌, ◌*◌, ◌/◌, ◌%◌, ◌≤◌, ◌<◌, ◌≡◌, refl, Bool, true, false, List, [], ◌∷◌, ◌++◌, length, get_or, take, set, replicate}
 use Rattle.std.proofs.Common.{sym, ap, ◌∙◌, ⊎_elim, append_assoc, arith, add-one, length-append, length-set, take-suc, take-suc-set, get_or-set_same, get_or-set_other, get_or-take, length-take-le, le-leb}
 use Rattle.std.proofs.lemmas.Bool.{lt-leb}
 use Rattle.laws.specs.Order.{lt_or_ge, eq_or_ne}

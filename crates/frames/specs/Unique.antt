@@ -1,6 +1,6 @@
 -- No second answer: the state after a line, the bytes printed and the whole list are fixed, for every state, line and list; of `fed` also where it stops,
 -- and every digit of the line that is begun.
-use Rattle.std.specs.Prelude.{ℕ, ◌≤◌, ◌<◌, ◌≡◌, refl, List, ◌++◌, length, take, drop}
+use Rattle.std.specs.Prelude.{ℕ, ◌≤◌, ◌<◌, ◌≡◌, List, ◌++◌, length, take, drop}
 use Rattle.std.proofs.Common.{sym, ap, ap₂, ◌∙◌, ⊎_elim, arith, take-append-drop, length-take-le}
 use Rattle.std.proofs.Math.Seq.{slice}
 use Rattle.laws.specs.Order.{lt_or_ge}

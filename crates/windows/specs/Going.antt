@@ -1,6 +1,6 @@
 -- All places, one after the other: the first p are done, their rows are the first a, their windows the first w. Holds at first, kept by a turn,
 -- gives the answer.
-use Rattle.std.specs.Prelude.{ℕ, ◌+◌, ◌-◌, ◌≤◌, ◌<◌, ◌≡◌, refl, List, length, set}
+use Rattle.std.specs.Prelude.{ℕ, ◌+◌, ◌-◌, ◌≤◌, ◌<◌, ◌≡◌, List, length, set}
 use Rattle.std.proofs.Common.{sym, ap, subst, ◌∙◌, ⊎_elim, arith, length-set, below_more}
 use Rattle.laws.specs.Order.{lt_or_ge}
 use Rattle.laws.specs.Lists.{at}

@@ -3,7 +3,6 @@
 use Rattle.std.specs.Prelude.{ℕ, suc, ◌+◌, ◌-◌, ◌≤◌, ◌<◌, ◌≡◌, refl, List, length, set}
 use Rattle.std.proofs.Common.{sym, ap, subst, ◌∙◌, ⊎_elim, arith, get_or-set_same, get_or-set_other}
 use Rattle.laws.specs.Order.{lt_or_ge}
-use Rattle.laws.specs.Lists.{at}
 use Rattle.rules.specs.Limits.{day}
 use Rattle.rules.specs.Window.{Span}
 use Rattle.flat.specs.Flat.{span_at}

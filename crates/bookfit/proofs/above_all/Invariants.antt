@@ -1,13 +1,9 @@
 -- Each row filed that follows row i and is not numbered below it is from c on along the chain: a row passed is numbered below, and the look for the next
 -- passes none that follows.
-use Prim.Native.Nat.{◌-◌, ◌≤◌}
-use mathlib.Core.Path.{refl}
-use native.Mathlib.Omega.{arith}
-use Rattle.laws.specs.Tests.{not_both}
+use Prim.Native.Nat.{◌≤◌}
 use Rattle.laws.specs.Lists.{at}
 use Rattle.flat.specs.Flat.{exit_of, next_value}
-use Rattle.bookfit.specs.Filed.{leave_slot_value, Ahead, ahead_next, NotBelow, none_ahead}
-use borrow.Author.Rules.{rules}
+use Rattle.bookfit.specs.Filed.{leave_slot_value, Ahead, NotBelow}
 use Rattle.bookfit.proofs.above_all.Given as goal
 
 abbrev pub invariant-loop-c : goal.invariant-loop-c

@@ -1,13 +1,10 @@
 -- The checks in their order: what each finds is the fault, and where none finds one the book is well formed.
-use Prim.Native.Nat.{ℕ}
-use mathlib.Core.List.{List, []}
+use mathlib.Core.List.{[]}
 use native.Mathlib.Omega.{arith}
-use borrow.Author.Tests.{not-true, not-false}
 use Rattle.laws.specs.Tests.{not_both}
 use Rattle.bookfit.specs.Least.{LowestRow}
 use Rattle.bookfit.specs.Formed.{Numbered, Ordered, RunsIn, Running, runs_given, runs_by_place}
 use Rattle.bookfit.specs.Answer.{few_links, links_on, book_many, book_ticket, book_out, book_falls, book_broken, book_overfull, book_barred, book_good}
-use borrow.Author.Rules.{rules}
 use Rattle.bookfit.proofs.book_fits.Goals as goal
 use Rattle.bookfit.proofs.book_fits.Goals.{Else-unfit-eq-OUT_OF_RANGE, Else-falls-gt0, After-first_broken-broken, Else-broken-gt0}
 

@@ -1,8 +1,6 @@
 -- Where no two crossings follow each other none is on a ring; else the listed rows decide.
 use mathlib.Core.Path.{refl}
-use borrow.Author.Tests.{not-true}
 use Rattle.bookfit.specs.Ring.{unringed_unbarred}
-use borrow.Author.Rules.{rules}
 use Rattle.bookfit.proofs.exchange_kept.Goals as goal
 
 pub returns-then-not-linked : goal.returns-then-not-linked

@@ -1,9 +1,6 @@
 -- A row goes to the front of its slot's chain, whose old front it then points to. After c turns the first c listed rows are on the chains of their slots.
-use Prim.Native.Nat.{◌-◌, ◌≤◌}
-use mathlib.Core.Path.{◌≡◌}
 use native.Mathlib.Omega.{arith}
-use Rattle.bookfit.specs.Filed.{Filed, filed_next}
-use borrow.Author.Rules.{rules}
+use Rattle.bookfit.specs.Filed.{filed_next}
 use Rattle.bookfit.proofs.file_rows.Goals as goal
 
 pub loop-c-preserved : goal.loop-c-preserved

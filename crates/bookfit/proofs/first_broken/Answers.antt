@@ -1,6 +1,5 @@
 -- The least of three: of the rows that do not fit, do not join or end a run that has ended.
-use Rattle.bookfit.specs.Least.{lowest_both, lowest_none, lowest_row}
-use borrow.Author.Rules.{rules}
+use Rattle.bookfit.specs.Least.{lowest_both, lowest_row}
 use Rattle.bookfit.proofs.first_broken.Goals as goal
 
 pub returns : goal.returns

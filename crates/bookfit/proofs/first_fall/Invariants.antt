@@ -1,10 +1,6 @@
 -- The first i keys rise, and the next is compared with the last of them: where it is not above that, its row is the first at which keys do not rise.
 use Prim.Native.Nat.{◌-◌, ◌≤◌}
-use native.Mathlib.Omega.{arith}
 use Rattle.flat.specs.Flat.{KeysRise}
-use Rattle.bookfit.specs.Rows.{rise_start, rise_next, rise_to}
-use Rattle.bookfit.specs.Prefix.{falls_at, falls_nowhere}
-use borrow.Author.Rules.{rules}
 use Rattle.bookfit.proofs.first_fall.Given as goal
 
 abbrev pub invariant-loop-i : goal.invariant-loop-i

@@ -1,9 +1,6 @@
 -- None of the rows passed is of ticket t; the first that is, is its first row.
 use Prim.Native.Nat.{◌-◌, ◌≤◌}
-use mathlib.Core.Path.{◌≡◌}
-use native.Mathlib.Omega.{arith}
-use Rattle.bookfit.specs.Least.{NoneOf, none_start, none_next, first_here, first_none}
-use borrow.Author.Rules.{rules}
+use Rattle.bookfit.specs.Least.{NoneOf}
 use Rattle.bookfit.proofs.first_of.Given as goal
 
 abbrev pub invariant-loop-j : goal.invariant-loop-j

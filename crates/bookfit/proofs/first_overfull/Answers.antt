@@ -1,10 +1,7 @@
 -- The first `good` rows overfill no place, the first `bad` rows do, and the rows between them grow fewer.
-use Prim.Native.Nat.{◌-◌}
 use native.Mathlib.Omega.{arith}
-use Rattle.bookfit.specs.Prefix.{Narrowed, narrowed_start, narrowed_up, narrowed_down, narrowed_end, given_to}
+use Rattle.bookfit.specs.Prefix.{narrowed_start, narrowed_end, given_to}
 use Rattle.bookfit.specs.Formed.{Capped, capped_inherited}
-use Rattle.bookfit.specs.Answer.{Lent}
-use borrow.Author.Rules.{rules}
 use Rattle.bookfit.proofs.first_overfull.Goals as goal
 
 pub loop-bad-init : goal.loop-bad-init

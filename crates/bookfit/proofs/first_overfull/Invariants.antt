@@ -1,10 +1,8 @@
 -- The first `good` rows overfill no place, the first `bad` rows do, and the rows between them grow fewer.
 use Prim.Native.Nat.{◌-◌}
-use native.Mathlib.Omega.{arith}
-use Rattle.bookfit.specs.Prefix.{Narrowed, narrowed_start, narrowed_up, narrowed_down, narrowed_end, given_to}
-use Rattle.bookfit.specs.Formed.{Capped, capped_inherited}
+use Rattle.bookfit.specs.Prefix.{Narrowed}
+use Rattle.bookfit.specs.Formed.{Capped}
 use Rattle.bookfit.specs.Answer.{Lent}
-use borrow.Author.Rules.{rules}
 use Rattle.bookfit.proofs.first_overfull.Given as goal
 
 abbrev pub invariant-loop-bad : goal.invariant-loop-bad

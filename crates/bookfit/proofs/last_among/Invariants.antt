@@ -1,13 +1,8 @@
 -- A last row of ticket t is among the first i exactly where the answer is true: none of the first j was one, and the row at j is looked at in
 -- each turn.
 use Prim.Native.Nat.{◌-◌, ◌≤◌}
-use mathlib.Core.Path.{◌≡◌, refl}
-use native.Mathlib.Omega.{arith}
-use Rattle.laws.specs.Tests.{not_both}
 use Rattle.laws.specs.Lists.{at}
 use Rattle.bookfit.specs.Join.{LastBelow}
-use Rattle.bookfit.specs.Marks.{no_last_start, no_last_next}
-use borrow.Author.Rules.{rules}
 use Rattle.bookfit.proofs.last_among.Given as goal
 
 abbrev pub invariant-loop-j : goal.invariant-loop-j

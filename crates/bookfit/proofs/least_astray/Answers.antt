@@ -1,13 +1,10 @@
 -- The successors of the first i rows are marked, and `low` is the least ticket of one of them that has none, or one that was marked before.
-use Prim.Native.Nat.{◌-◌, ◌≤◌}
-use mathlib.Core.Path.{◌≡◌, refl}
+use mathlib.Core.Path.{refl}
 use native.Mathlib.Omega.{arith}
 use lib.ListN.{get_or-replicate}
 use mathlib.Core.Bool.{false}
-use mathlib.Core.Logic.{⊎_elim}
 use Rattle.laws.specs.Lists.{at}
-use Rattle.bookfit.specs.Marks.{Takes, takes_start, takes_last, takes_none, takes_taken, takes_free, goes_by, last_by, spot_as}
-use borrow.Author.Rules.{rules}
+use Rattle.bookfit.specs.Marks.{takes_start, takes_last, takes_none, takes_taken, takes_free, goes_by, last_by, spot_as}
 use mathlib.Core.Path.{ap}
 use mathlib.Core.Bool.{not}
 use Rattle.bookfit.proofs.least_astray.Goals as goal
@@ -25,11 +22,11 @@ loop-i-preserved c =
     let n = c.args.count in
     let q = c.is_last.ensures in
     elim c.if-not-is_last.branch [
-      then-not-is_last+then-j-count w ↦
-        rw (w.taken-is, w.low-is) (omega arith, takes_none K X n l.i l.invariant.1 (goes_by _ _ _ q (ap not w.if-not-is_last.true)) w.hinted-j.result (spot_as _ _ _ _ _ w.next_key.ensures.0 w.hinted-j.ensures) w.if-j-count.true w.least-low.ensures)
+      | then-not-is_last+then-j-count w ↦
+          rw (w.taken-is, w.low-is) (omega arith, takes_none K X n l.i l.invariant.1 (goes_by _ _ _ q (ap not w.if-not-is_last.true)) w.hinted-j.result (spot_as _ _ _ _ _ w.next_key.ensures.0 w.hinted-j.ensures) w.if-j-count.true w.least-low.ensures)
       | then-not-is_last+else-j-count+then-taken-j w ↦
-        rw (w.taken-is, w.low-is) (omega arith, takes_taken K X n l.i l.invariant.1 (goes_by _ _ _ q (ap not w.if-not-is_last.true)) w.hinted-j.result (spot_as _ _ _ _ _ w.next_key.ensures.0 w.hinted-j.ensures) c.requires.keys_rise.rise w.if-j-count.false w.if-taken-j.true w.least-low-then-taken-j.ensures)
+          rw (w.taken-is, w.low-is) (omega arith, takes_taken K X n l.i l.invariant.1 (goes_by _ _ _ q (ap not w.if-not-is_last.true)) w.hinted-j.result (spot_as _ _ _ _ _ w.next_key.ensures.0 w.hinted-j.ensures) c.requires.keys_rise.rise w.if-j-count.false w.if-taken-j.true w.least-low-then-taken-j.ensures)
       | then-not-is_last+else-j-count+else-taken-j w ↦
-        rw (w.taken-is, w.low-is) (omega arith, takes_free K X n l.i l.invariant.1 (goes_by _ _ _ q (ap not w.if-not-is_last.true)) w.hinted-j.result (spot_as _ _ _ _ _ w.next_key.ensures.0 w.hinted-j.ensures) c.requires.keys_rise.rise w.if-j-count.false c.requires.count_bound w.if-taken-j.false)
+          rw (w.taken-is, w.low-is) (omega arith, takes_free K X n l.i l.invariant.1 (goes_by _ _ _ q (ap not w.if-not-is_last.true)) w.hinted-j.result (spot_as _ _ _ _ _ w.next_key.ensures.0 w.hinted-j.ensures) c.requires.keys_rise.rise w.if-j-count.false c.requires.count_bound w.if-taken-j.false)
       | else-not-is_last w ↦ rw (w.taken-is, w.low-is) (omega arith, takes_last K X n l.i l.invariant.1 (last_by _ _ _ q (ap not w.if-not-is_last.false)))
     ]

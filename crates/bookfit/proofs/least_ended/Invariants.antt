@@ -1,14 +1,8 @@
 -- Each last row of the first i has marked its ticket's slot, so that one of the same ticket can only be where the slot is marked; there the rows before are
 -- looked through. `low` is the least ticket of one that comes second.
 use Prim.Native.Nat.{◌-◌, ◌≤◌}
-use mathlib.Core.Path.{◌≡◌, refl, sym, ◌∙◌}
-use mathlib.Core.Logic.{⊎_elim}
-use native.Mathlib.Omega.{arith}
-use borrow.Author.Tests.{eq-eqb, eqb-true}
-use Rattle.laws.specs.Tests.{not_both}
 use Rattle.laws.specs.Lists.{at}
-use Rattle.bookfit.specs.Marks.{Ended, ended_start, ended_not, ended_again, ended_first}
-use borrow.Author.Rules.{rules}
+use Rattle.bookfit.specs.Marks.{Ended}
 use Rattle.bookfit.proofs.least_ended.Given as goal
 
 abbrev pub invariant-loop-i : goal.invariant-loop-i

@@ -1,14 +1,7 @@
 -- The first i rows are in their ranges, and `low` is the least ticket of one of them that does not fit; a row that fits is in its ranges.
-use Prim.Native.Nat.{◌-◌, ◌≤◌}
 use native.Mathlib.Omega.{arith}
-use Rattle.laws.specs.Lists.{at}
-use Rattle.rules.specs.Map.{linked}
-use Rattle.flat.specs.Flat.{links_in}
-use Rattle.bookfit.specs.Rows.{UnfitTo, unfit_start, unfit_fits, unfit_lower, unfit_end, out_of_range}
-use mathlib.Core.Logic.{⊎_elim}
-use borrow.Author.Tests.{not-true, not-false}
+use Rattle.bookfit.specs.Rows.{unfit_fits, unfit_lower}
 use Rattle.laws.specs.Tests.{not_both}
-use borrow.Author.Rules.{rules}
 use Rattle.bookfit.proofs.least_unfit.Goals as goal
 use Rattle.bookfit.proofs.least_unfit.Goals.{then-not-row_fits+else-not-in_range, else-not-row_fits}
 
@@ -18,7 +11,7 @@ loop-i-preserved c =
     let T = c.ticket_fits.ensures.0 c.if-not-ticket_fits.false in
     let f = c.row_fits in
     elim c.if-not-row_fits.branch [
-      then-not-row_fits+else-not-in_range w ↦
-        rw w.low-is (omega arith, unfit_lower _ _ _ _ _ _ l.invariant.1 T (w.in_range.ensures.0 w.if-not-in_range.false) (λ z. not_both (f.ensures.1 z) w.if-not-row_fits.true) w.least-low.ensures)
+      | then-not-row_fits+else-not-in_range w ↦
+          rw w.low-is (omega arith, unfit_lower _ _ _ _ _ _ l.invariant.1 T (w.in_range.ensures.0 w.if-not-in_range.false) (λ z. not_both (f.ensures.1 z) w.if-not-row_fits.true) w.least-low.ensures)
       | else-not-row_fits w ↦ rw w.low-is (omega arith, unfit_fits _ _ _ _ _ _ l.invariant.1 c.requires.on_map T (f.ensures.0 w.if-not-row_fits.false))
     ]

@@ -1,14 +1,9 @@
 -- The first i rows are in their ranges, and `low` is the least ticket of one of them that does not fit; a row that fits is in its ranges.
 use Prim.Native.Nat.{◌-◌, ◌≤◌}
-use native.Mathlib.Omega.{arith}
 use Rattle.laws.specs.Lists.{at}
 use Rattle.rules.specs.Map.{linked}
 use Rattle.flat.specs.Flat.{links_in}
-use Rattle.bookfit.specs.Rows.{UnfitTo, unfit_start, unfit_fits, unfit_lower, unfit_end, out_of_range}
-use mathlib.Core.Logic.{⊎_elim}
-use borrow.Author.Tests.{not-true, not-false}
-use Rattle.laws.specs.Tests.{not_both}
-use borrow.Author.Rules.{rules}
+use Rattle.bookfit.specs.Rows.{UnfitTo}
 use Rattle.bookfit.proofs.least_unfit.Given as goal
 
 abbrev pub invariant-loop-i : goal.invariant-loop-i

@@ -2,7 +2,6 @@
 use mathlib.Core.Path.{refl}
 use native.Mathlib.Omega.{arith}
 use Rattle.bookfit.specs.Filed.{leave_slot_value}
-use borrow.Author.Rules.{rules}
 use Rattle.bookfit.proofs.leave_slot.Goals as goal
 
 pub returns : goal.returns

@@ -1,11 +1,7 @@
 -- The rows of the chain that leave q at t are all from cur on: a row passed is not one of them. The links fall, and so does cur.
-use Prim.Native.Nat.{◌-◌, ◌≤◌}
-use mathlib.Core.Path.{◌∙◌}
-use mathlib.Core.Logic.{⊎_elim}
-use native.Mathlib.Omega.{arith}
+use Prim.Native.Nat.{◌≤◌}
 use Rattle.bookfit.specs.Ring.{Leaves}
-use Rattle.bookfit.specs.Filed.{Ahead, ahead_next, chain_ended}
-use borrow.Author.Rules.{rules}
+use Rattle.bookfit.specs.Filed.{Ahead}
 use Rattle.bookfit.proofs.leaver.Given as goal
 
 abbrev pub invariant-loop-cur : goal.invariant-loop-cur

@@ -1,7 +1,6 @@
 -- The successor's key is made of next place, exit and ticket; an exit is below 2^24, so that the key is below 2^56.
 use native.Mathlib.Omega.{arith}
 use Rattle.bookfit.specs.Join.{next_key_value}
-use borrow.Author.Rules.{rules}
 use Rattle.bookfit.proofs.next_key.Goals as goal
 
 pub returns : goal.returns

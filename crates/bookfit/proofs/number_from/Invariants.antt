@@ -1,8 +1,6 @@
 -- All stays in range, and each turn takes one from what is left: nothing else is claimed.
-use Prim.Native.Nat.{◌-◌, ◌<◌}
-use native.Mathlib.Omega.{arith}
-use Rattle.bookfit.specs.Filed.{Pile, pile_rank, pile_spot}
-use borrow.Author.Rules.{rules}
+use Prim.Native.Nat.{◌<◌}
+use Rattle.bookfit.specs.Filed.{Pile}
 use Rattle.bookfit.proofs.number_from.Given as goal
 
 abbrev pub invariant-loop-left : goal.invariant-loop-left

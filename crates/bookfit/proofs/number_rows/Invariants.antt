@@ -1,10 +1,6 @@
 -- All stays in range as far as the list goes.
 use Prim.Native.Nat.{◌-◌, ◌≤◌}
-use mathlib.Core.Path.{refl}
-use mathlib.Core.Logic.{⊎_elim}
-use native.Mathlib.Omega.{arith}
-use Rattle.bookfit.specs.Filed.{Pile, pile_start}
-use borrow.Author.Rules.{rules}
+use Rattle.bookfit.specs.Filed.{Pile}
 use Rattle.bookfit.proofs.number_rows.Given as goal
 
 abbrev pub invariant-loop-c : goal.invariant-loop-c

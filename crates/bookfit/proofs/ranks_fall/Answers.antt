@@ -1,14 +1,10 @@
 -- Each of the first c listed rows that is ringed is numbered above all that follow it, since one that is not above them is looked at by itself. So no row is
 -- ringed once all are passed; and one that is barred is a row of the book that goes on.
-use Prim.Native.Nat.{◌-◌, ◌≤◌}
 use mathlib.Core.Path.{◌≡◌, refl}
-use mathlib.Core.Logic.{⊎_elim}
 use native.Mathlib.Omega.{arith}
-use borrow.Author.Tests.{not-false}
 use Rattle.laws.specs.Tests.{not_both}
 use Rattle.bookfit.specs.Ring.{unbarred_unringed}
-use Rattle.bookfit.specs.Filed.{Passed, passed_start, passed_next, passed_unbarred}
-use borrow.Author.Rules.{rules}
+use Rattle.bookfit.specs.Filed.{passed_unbarred}
 use Rattle.bookfit.proofs.ranks_fall.Goals as goal
 
 pub returns-then-leads : goal.returns-then-leads
@@ -17,8 +13,7 @@ returns-then-leads c =
     let j = c.loop-c.c in
     let h = c.loop-c-test.true in
     let i = c.row_at-i in
-    let b = rw (c.next_of.ensures.0, c.place_of.ensures, c.exit_of.ensures.0) at (c.leads.ensures.0 c.if-leads.true) in
-    (
+    let b = rw (c.next_of.ensures.0, c.place_of.ensures, c.exit_of.ensures.0) at (c.leads.ensures.0 c.if-leads.true) in (
       λ q. absurd (not_both q refl),
       λ U. absurd (unbarred_unringed c.args.key.now c.args.tail.now c.args.count U i.result
           (record { within = omega (arith, i.ensures.0, A.within j h); goes_on = rw i.ensures.0 (A.goes_on j h); barred = b })),

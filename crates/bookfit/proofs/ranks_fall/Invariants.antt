@@ -1,14 +1,7 @@
 -- Each of the first c listed rows that is ringed is numbered above all that follow it, since one that is not above them is looked at by itself. So no row is
 -- ringed once all are passed; and one that is barred is a row of the book that goes on.
 use Prim.Native.Nat.{◌-◌, ◌≤◌}
-use mathlib.Core.Path.{◌≡◌, refl}
-use mathlib.Core.Logic.{⊎_elim}
-use native.Mathlib.Omega.{arith}
-use borrow.Author.Tests.{not-false}
-use Rattle.laws.specs.Tests.{not_both}
-use Rattle.bookfit.specs.Ring.{unbarred_unringed}
-use Rattle.bookfit.specs.Filed.{Passed, passed_start, passed_next, passed_unbarred}
-use borrow.Author.Rules.{rules}
+use Rattle.bookfit.specs.Filed.{Passed}
 use Rattle.bookfit.proofs.ranks_fall.Given as goal
 
 abbrev pub invariant-loop-c : goal.invariant-loop-c

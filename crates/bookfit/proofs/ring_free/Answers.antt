@@ -1,10 +1,8 @@
 -- The candidates are listed, filed and numbered, and their numbers tested.
 use mathlib.Core.Path.{refl}
-use native.Mathlib.Omega.{arith}
 use Rattle.bookfit.specs.Prefix.{keyed_to, timed_to}
 use Rattle.bookfit.specs.Ring.{ringed_candidate, listed_as}
 use Rattle.bookfit.specs.Filed.{filed_start}
-use borrow.Author.Rules.{rules}
 use Rattle.bookfit.proofs.ring_free.Goals as goal
 
 pub file_rows-requires : goal.file_rows-requires

@@ -1,9 +1,8 @@
 -- `booking::book` meets its contract: what the survey refuses is refused, and what is sound is booked on.
 use mathlib.Core.Path.{refl}
-use borrow.Author.Rules.{rules}
 use Rattle.laws.specs.Lists.{zeros}
 use Rattle.vet.specs.Vetted.{vetted_refused, vetted_sound}
-use Rattle.booking.specs.Booking.{book_refused, book_sound_is}
+use Rattle.booking.specs.Booking.{book_refused}
 use Rattle.booking.proofs.book.Goals as goal
 
 pub survey-v-requires : goal.survey-v-requires

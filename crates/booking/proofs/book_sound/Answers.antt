@@ -1,13 +1,11 @@
 -- `booking::book_sound` meets its contract: each refusal's test is its condition, and where none holds the rows of the chosen plan are put in under the
 -- next ticket, which goes up.
 use Prim.Native.Nat.{ℕ, ◌<◌}
-use mathlib.Core.Path.{◌≡◌, refl, sym, ap, ◌∙◌}
+use mathlib.Core.Path.{refl, sym, ap, ◌∙◌}
 use native.Mathlib.Omega.{arith}
 use mathlib.Core.List.{List}
 use lib.ListN.{length, get_or-replicate}
-use borrow.Author.Rules.{rules}
 use Rattle.rules.specs.declared.Row.{Row}
-use Rattle.rules.specs.declared.Book.{Book}
 use Rattle.flat.specs.Flat.{places_in}
 use Rattle.flat.specs.Laws.{places_long}
 use Rattle.desk.specs.Planning.{route_long, route_arrives}

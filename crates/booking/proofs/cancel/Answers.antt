@@ -1,9 +1,7 @@
 -- `booking::cancel` meets its contract: what the survey refuses is refused, and what is sound is cancelled in.
 use mathlib.Core.Path.{refl}
-use borrow.Author.Rules.{rules}
 use Rattle.laws.specs.Lists.{zeros}
-use Rattle.rules.specs.Gate.Checked.{sound}
-use Rattle.vet.specs.Vetted.{vetted_refused, vetted_sound}
+use Rattle.vet.specs.Vetted.{vetted_refused}
 use Rattle.booking.specs.Cancelling.{cancel_refused}
 use Rattle.booking.proofs.cancel.Goals as goal
 

@@ -1,20 +1,16 @@
 -- `booking::enter_rows` meets its contract: the outer loop keeps `Inserting`, that the first k of the path's rows are put in and the others can be too;
 -- in the inner one the rows from j on are moved up by one and are above the new row, which goes where it ends.
-use Prim.Native.Nat.{ℕ, ◌-◌, ◌<◌}
-use mathlib.Core.Path.{◌≡◌, sym, ap, ◌∙◌}
-use mathlib.Core.Logic.{⊎_elim}
+use Prim.Native.Nat.{ℕ, ◌<◌}
+use mathlib.Core.Path.{sym, ap, ◌∙◌}
 use native.Mathlib.Omega.{arith}
 use mathlib.Core.List.{List}
 use lib.ListN.{length, take}
-use borrow.Author.Rules.{rules}
-use borrow.Author.Tests.{not-true, not-false}
 use Rattle.rules.specs.Rows.{row_key, row_at, lessb}
 use Rattle.rules.specs.Plan.{run_rows}
-use Rattle.rules.specs.Book.{rows_of}
 use Rattle.planner.specs.Choice.{plan_of}
 use Rattle.planner.specs.Route.{PathFits, path_rows}
-use Rattle.ledger.specs.Insert.{Shifted, shift_none, shift_next, shift_done}
-use Rattle.ledger.specs.Inserting.{Inserting, inserted_ready, inserted_long, inserted_next, inserted_all}
+use Rattle.ledger.specs.Insert.{shift_next, shift_done}
+use Rattle.ledger.specs.Inserting.{inserted_ready, inserted_long, inserted_next, inserted_all}
 use Rattle.booking.proofs.enter_rows.Goals as goal
 use Rattle.booking.proofs.enter_rows.Goals.{else-loop-j-test, then-loop-j-test+then-not-before}
 
@@ -65,9 +61,9 @@ loop-k-preserved c =
     inserted_next I h r.ensures
     (shift_done _ _ (inserted_long I) f.0 l.invariant f.1.0 f.1.1
     (λ i e. elim c.loop-j-test.branch [
-      else-loop-j-test w ↦ absurd (omega (arith, w.loop-j-test.false))
+      | else-loop-j-test w ↦ absurd (omega (arith, w.loop-j-test.false))
       | then-loop-j-test+then-not-before w ↦
-        ap (λ (k : ℕ). lessb (row_key r.result) (row_key (row_at l.out.rows k))) (omega arith) ∙ sym w.before-in-loop-j.ensures ∙ w.if-not-before.true
+          ap (λ (k : ℕ). lessb (row_key r.result) (row_key (row_at l.out.rows k))) (omega arith) ∙ sym w.before-in-loop-j.ensures ∙ w.if-not-before.true
     ]))
 
 pub returns : goal.returns

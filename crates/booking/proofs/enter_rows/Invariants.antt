@@ -1,19 +1,12 @@
 -- `booking::enter_rows` meets its contract: the outer loop keeps `Inserting`, that the first k of the path's rows are put in and the others can be too;
 -- in the inner one the rows from j on are moved up by one and are above the new row, which goes where it ends.
-use Prim.Native.Nat.{ℕ, ◌-◌, ◌<◌}
-use mathlib.Core.Path.{◌≡◌, sym, ap, ◌∙◌}
-use mathlib.Core.Logic.{⊎_elim}
-use native.Mathlib.Omega.{arith}
-use lib.ListN.{length, take}
-use borrow.Author.Rules.{rules}
-use borrow.Author.Tests.{not-true, not-false}
-use Rattle.rules.specs.Rows.{row_key, row_at, lessb}
+use Prim.Native.Nat.{◌-◌}
+use lib.ListN.{take}
 use Rattle.rules.specs.Plan.{run_rows}
 use Rattle.rules.specs.Book.{rows_of}
 use Rattle.planner.specs.Choice.{plan_of}
-use Rattle.planner.specs.Route.{path_rows}
-use Rattle.ledger.specs.Insert.{Shifted, shift_none, shift_next, shift_done}
-use Rattle.ledger.specs.Inserting.{Inserting, inserted_ready, inserted_long, inserted_next, inserted_all}
+use Rattle.ledger.specs.Insert.{Shifted}
+use Rattle.ledger.specs.Inserting.{Inserting}
 use Rattle.booking.proofs.enter_rows.Given as goal
 
 abbrev pub invariant-loop-j : goal.invariant-loop-j

@@ -1,8 +1,6 @@
 -- `desk::plan_flat` meets its contract: what vetting refuses is refused, and what is sound is planned on.
 use mathlib.Core.Path.{refl, sym, ◌∙◌}
-use borrow.Author.Rules.{rules}
 use Rattle.laws.specs.Lists.{zeros}
-use Rattle.rules.specs.Gate.Checked.{sound}
 use Rattle.vet.specs.Vetted.{vetted_refused, vetted_sound}
 use Rattle.desk.specs.Planning.{plan_refused}
 use Rattle.desk.proofs.plan_flat.Goals as goal

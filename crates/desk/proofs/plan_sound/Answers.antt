@@ -2,7 +2,6 @@
 use Prim.Native.Nat.{◌<◌}
 use mathlib.Core.Path.{refl, sym, ap, ◌∙◌}
 use native.Mathlib.Omega.{arith}
-use borrow.Author.Rules.{rules}
 use lib.ListN.{get_or-replicate}
 use Rattle.rules.specs.declared.Row.{Row}
 use Rattle.desk.specs.Planning.{route_fits, route_long, route_arrives, plan_off_map, plan_off_day, plan_none, plan_short, plan_done}

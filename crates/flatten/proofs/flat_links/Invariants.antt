@@ -1,11 +1,6 @@
 -- `flatten::flat_links` meets its contract: after j turns the arrays hold the map's first j links, so after 1,024 turns all of them.
 use Prim.Native.Nat.{◌-◌, ◌≤◌}
-use mathlib.Core.Path.{◌≡◌}
-use native.Mathlib.Omega.{arith}
-use borrow.Author.Rules.{rules}
-use lib.ListN.{length}
-use Rattle.flatten.specs.Lists.{unmapped}
-use Rattle.flatten.specs.Maps.{LinksTo, links_none, links_next}
+use Rattle.flatten.specs.Maps.{LinksTo}
 use Rattle.flatten.proofs.flat_links.Given as goal
 
 abbrev pub invariant-loop-j : goal.invariant-loop-j

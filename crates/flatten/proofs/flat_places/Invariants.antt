@@ -1,11 +1,6 @@
 -- `flatten::flat_places` meets its contract: after p turns the arrays hold the map's first p places, so after 256 turns all of them.
 use Prim.Native.Nat.{◌-◌, ◌≤◌}
-use mathlib.Core.Path.{◌≡◌}
-use native.Mathlib.Omega.{arith}
-use borrow.Author.Rules.{rules}
-use lib.ListN.{length}
-use Rattle.flatten.specs.Lists.{unmapped}
-use Rattle.flatten.specs.Maps.{PlacesTo, places_none, places_next}
+use Rattle.flatten.specs.Maps.{PlacesTo}
 use Rattle.flatten.proofs.flat_places.Given as goal
 
 abbrev pub invariant-loop-p : goal.invariant-loop-p

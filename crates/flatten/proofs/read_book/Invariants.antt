@@ -1,15 +1,7 @@
 -- `flatten::read_book` meets its contract: after i turns of the first loop the book's first i rows stand in the arrays, and the second keeps them there and
 -- finds zeros from the count on. The first row out of range and the first used slot past the count are none of a well-formed book.
 use Prim.Native.Nat.{◌-◌, ◌≤◌}
-use mathlib.Core.Path.{◌≡◌}
-use native.Mathlib.Omega.{arith}
-use borrow.Author.Rules.{rules}
-use borrow.Author.Tests.{not-true, not-false}
-use lib.ListN.{length}
-use Rattle.laws.specs.Tests.{not_both}
-use Rattle.flatten.specs.Lists.{unmapped}
-use Rattle.flatten.specs.Books.{RowsTo, rows_none, rows_next, rows_all, rows_bad, rows_many, ZeroTo, zero_none, zero_next, spare_bad, spare_all}
-use Rattle.flatten.specs.Read.{read_all, read_none}
+use Rattle.flatten.specs.Books.{RowsTo, ZeroTo}
 use Rattle.flatten.proofs.read_book.Given as goal
 
 abbrev pub invariant-loop-i : goal.invariant-loop-i

@@ -1,5 +1,4 @@
 -- `frames::book_frame` meets its contract: the booking's line, and the book that it leaves.
-use borrow.Author.Rules.{rules}
 use Rattle.frames.specs.Frames.{book_frame_lem}
 use Rattle.frames.proofs.book_frame.Goals as goal
 

@@ -1,7 +1,4 @@
 -- `frames::book_head` meets its contract: the array's bytes are 00, the ticket's three, the arrival's three and the count's two, or a refusal's number.
-use mathlib.Core.Path.{refl}
-use native.Mathlib.Omega.{arith}
-use borrow.Author.Rules.{rules}
 use Rattle.frames.proofs.book_head.Goals as goal
 
 pub returns-in-Refused : goal.returns-in-Refused

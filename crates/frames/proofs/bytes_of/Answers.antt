@@ -1,10 +1,10 @@
 -- `frames::bytes_of` meets its contract: after i turns the first i bytes are read, and a turn reads one more or meets a digit that is none.
-use Prim.Native.Nat.{◌-◌, ◌/◌, ◌≤◌}
+use Prim.Native.Nat.{◌/◌}
 use mathlib.Core.Path.{◌≡◌, refl}
 use native.Mathlib.Omega.{arith}
 use borrow.Author.Rules.{rules}
 use Rattle.laws.specs.Lists.{zeros}
-use Rattle.frames.specs.Lines.{ReadTo, read_start, read_next, read_all, too_long, odd_length, bad_high, bad_low}
+use Rattle.frames.specs.Lines.{read_start, read_next, read_all, too_long, odd_length, bad_high, bad_low}
 use Rattle.frames.proofs.bytes_of.Goals as goal
 
 pub returns-then-n-gt18 : goal.returns-then-n-gt18

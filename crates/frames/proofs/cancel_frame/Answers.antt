@@ -1,5 +1,4 @@
 -- `frames::cancel_frame` meets its contract: the cancellation's line, and the book that it leaves.
-use borrow.Author.Rules.{rules}
 use Rattle.frames.specs.Frames.{cancel_frame_lem}
 use Rattle.frames.proofs.cancel_frame.Goals as goal
 

@@ -1,11 +1,9 @@
 -- `frames::fed` meets its contract: each turn takes the bytes to the next line feed and puts the line's answer behind those there are, while there is room.
-use Prim.Native.Nat.{◌-◌, ◌<◌}
 use mathlib.Core.Path.{sym, ◌∙◌}
 use native.Mathlib.Omega.{arith}
-use lib.ListN.{length}
 use borrow.Author.Rules.{rules}
 use borrow.Author.Tests.{not-true, not-false}
-use Rattle.frames.specs.Cutting.{Feeding, feeding_start, feeding_next, fed_is, step_going, step_answered}
+use Rattle.frames.specs.Cutting.{feeding_start, feeding_next, fed_is, step_going, step_answered}
 use Rattle.frames.proofs.fed.Goals as goal
 
 pub loop-i-init : goal.loop-i-init

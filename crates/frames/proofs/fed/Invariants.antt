@@ -1,11 +1,7 @@
 -- `frames::fed` meets its contract: each turn takes the bytes to the next line feed and puts the line's answer behind those there are, while there is room.
-use Prim.Native.Nat.{◌-◌, ◌<◌}
-use mathlib.Core.Path.{sym, ◌∙◌}
-use native.Mathlib.Omega.{arith}
+use Prim.Native.Nat.{◌-◌}
 use lib.ListN.{length}
-use borrow.Author.Rules.{rules}
-use borrow.Author.Tests.{not-true, not-false}
-use Rattle.frames.specs.Cutting.{Feeding, feeding_start, feeding_next, fed_is, step_going, step_answered}
+use Rattle.frames.specs.Cutting.{Feeding}
 use Rattle.frames.proofs.fed.Given as goal
 
 abbrev pub invariant-loop-i : goal.invariant-loop-i

@@ -1,8 +1,6 @@
 -- `frames::link_frame` meets its contract: refused once the map is closed or has 1,024 links, and otherwise kept as the next link.
 use native.Mathlib.Omega.{arith}
-use borrow.Author.Rules.{rules}
-use Rattle.laws.specs.Tests.{not_both}
-use Rattle.frames.specs.Frames.{link_refused, link_kept}
+use Rattle.frames.specs.Frames.{link_kept}
 use Rattle.frames.proofs.link_frame.Goals as goal
 
 pub returns : goal.returns

@@ -1,5 +1,4 @@
 -- `frames::no_frame` meets its contract: the one line, and map, book and whether the map is closed as they were.
-use borrow.Author.Rules.{rules}
 use Rattle.frames.specs.Frames.{refused_line}
 use Rattle.frames.proofs.no_frame.Goals as goal
 

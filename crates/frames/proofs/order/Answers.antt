@@ -1,8 +1,5 @@
 -- `frames::order` meets its contract: what a decoder's own function answers is what the line answers, and the decoders left out change neither map nor book.
-use mathlib.Core.Path.{refl}
-use borrow.Author.Rules.{rules}
 use Rattle.frames.specs.Told.{spoken_so}
-use Rattle.frames.specs.Answering.{no_order}
 use Rattle.frames.proofs.order.Goals as goal
 
 pub returns-in-Place : goal.returns-in-Place

@@ -2,7 +2,6 @@
 use mathlib.Core.Path.{◌≡◌}
 use native.Mathlib.Omega.{arith}
 use lib.ListN.{length}
-use borrow.Author.Rules.{rules}
 use Rattle.rules.specs.Bytes.{list_size}
 use Rattle.desk.specs.Few.{page_within}
 use Rattle.frames.specs.Frames.{page_frame_lem}

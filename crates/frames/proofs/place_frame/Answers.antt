@@ -1,8 +1,6 @@
 -- `frames::place_frame` meets its contract: refused once the map is closed or has 256 places, and otherwise kept as the next place.
 use native.Mathlib.Omega.{arith}
-use borrow.Author.Rules.{rules}
-use Rattle.laws.specs.Tests.{not_both}
-use Rattle.frames.specs.Frames.{place_refused, place_kept}
+use Rattle.frames.specs.Frames.{place_kept}
 use Rattle.frames.proofs.place_frame.Goals as goal
 
 pub returns : goal.returns

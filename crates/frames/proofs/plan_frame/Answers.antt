@@ -3,7 +3,6 @@ use Prim.Native.Nat.{ℕ}
 use mathlib.Core.Path.{◌≡◌}
 use native.Mathlib.Omega.{arith}
 use lib.ListN.{length}
-use borrow.Author.Rules.{rules}
 use lib.ListN.{length-replicate}
 use Rattle.rules.specs.Bytes.{list_size}
 use Rattle.desk.specs.Few.{plan_within}

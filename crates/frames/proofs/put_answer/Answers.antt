@@ -1,6 +1,5 @@
 -- `frames::put_answer` meets its contract: the first line over the front of the list, and the row lines behind it.
 use native.Mathlib.Omega.{arith}
-use borrow.Author.Rules.{rules}
 use Rattle.frames.specs.Told.{answer_lines}
 use Rattle.frames.proofs.put_answer.Goals as goal
 

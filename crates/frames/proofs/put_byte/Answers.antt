@@ -1,7 +1,4 @@
 -- `frames::put_byte` meets its contract: two stores side by side, of the digits of the byte's two halves.
-use native.Mathlib.Omega.{arith}
-use borrow.Author.Rules.{rules}
-use lib.ListN.{length-set}
 use Rattle.frames.specs.Put.{put_byte}
 use Rattle.frames.proofs.put_byte.Goals as goal
 

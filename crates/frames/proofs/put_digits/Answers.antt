@@ -1,8 +1,6 @@
 -- `frames::put_digits` meets its contract: after i turns the digits of the first i bytes are put, and each turn puts those of one more.
-use Prim.Native.Nat.{◌-◌, ◌≤◌}
-use mathlib.Core.Path.{◌≡◌}
 use native.Mathlib.Omega.{arith}
-use Rattle.frames.specs.Put.{Digits, digits_start, digits_next}
+use Rattle.frames.specs.Put.{digits_start, digits_next}
 use Rattle.frames.proofs.put_digits.Goals as goal
 
 pub loop-i-init : goal.loop-i-init

@@ -1,6 +1,4 @@
 -- `frames::put_line` meets its contract: behind the digits of the bytes stands a line feed.
-use native.Mathlib.Omega.{arith}
-use borrow.Author.Rules.{rules}
 use Rattle.frames.specs.Put.{put_line_lem}
 use Rattle.frames.proofs.put_line.Goals as goal
 

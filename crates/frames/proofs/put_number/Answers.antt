@@ -1,6 +1,5 @@
 -- `frames::put_number` meets its contract: a line of one byte is two digits and a line feed.
 use mathlib.Core.Path.{refl}
-use borrow.Author.Rules.{rules}
 use Rattle.rules.specs.Frames.{hex_of}
 use Rattle.frames.proofs.put_number.Goals as goal
 

@@ -1,8 +1,6 @@
 -- `frames::put_rows` meets its contract: after j turns the lines of the first j records are put, and each turn puts one more.
 use Prim.Native.Nat.{◌-◌, ◌≤◌}
-use mathlib.Core.Path.{◌≡◌}
-use native.Mathlib.Omega.{arith}
-use Rattle.frames.specs.Put.{RowsPut, rows_start, rows_next}
+use Rattle.frames.specs.Put.{RowsPut}
 use Rattle.frames.proofs.put_rows.Given as goal
 
 abbrev pub invariant-loop-j : goal.invariant-loop-j

@@ -1,5 +1,4 @@
 -- `frames::refused` meets its contract: the line 0C, and the state as it was.
-use borrow.Author.Rules.{rules}
 use Rattle.frames.specs.Frames.{refused_line}
 use Rattle.frames.proofs.refused.Goals as goal
 

@@ -1,8 +1,6 @@
 -- `frames::take_line` meets its contract: the bytes passed end no line and are on the line, until a line feed ends it or the bytes end.
-use Prim.Native.Nat.{◌-◌}
 use native.Mathlib.Omega.{arith}
-use lib.ListN.{length}
-use Rattle.frames.specs.Cutting.{Going, going_start, going_next, cut_ended, cut_going}
+use Rattle.frames.specs.Cutting.{going_start, going_next, cut_ended, cut_going}
 use Rattle.frames.proofs.take_line.Goals as goal
 
 pub loop-i-init : goal.loop-i-init

@@ -1,8 +1,7 @@
 -- `frames::take_line` meets its contract: the bytes passed end no line and are on the line, until a line feed ends it or the bytes end.
 use Prim.Native.Nat.{◌-◌}
-use native.Mathlib.Omega.{arith}
 use lib.ListN.{length}
-use Rattle.frames.specs.Cutting.{Going, going_start, going_next, cut_ended, cut_going}
+use Rattle.frames.specs.Cutting.{Going}
 use Rattle.frames.proofs.take_line.Given as goal
 
 abbrev pub invariant-loop-i : goal.invariant-loop-i

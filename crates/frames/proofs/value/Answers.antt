@@ -1,7 +1,6 @@
 -- `frames::value` meets its contract: the two ranges of digits give their values, and no other byte is a digit.
 use native.Mathlib.Omega.{arith}
 use Rattle.unique.specs.Hex.{value_low, value_high, value_none}
-use borrow.Author.Rules.{rules}
 use Rattle.frames.proofs.value.Goals as goal
 
 pub returns-in-48-to-57 : goal.returns-in-48-to-57

@@ -1,6 +1,5 @@
 -- `frames::word_of` meets its contract: the line's bytes, if it has any, go to the decoder of their kind where their number is that kind's.
 use native.Mathlib.Omega.{arith}
-use borrow.Author.Rules.{rules}
 use Rattle.frames.specs.Answering.{word_none, word_other, word_framed}
 use Rattle.frames.proofs.word_of.Goals as goal
 

@@ -1,8 +1,7 @@
 -- `ledger::remove_ticket` meets its contract: the rows of other tickets among the first i stand one after the other in the new array, which is empty
 -- behind them; the rest of the i rows are the ticket's.
-use Prim.Native.Nat.{◌-◌, ◌≤◌, ◌<◌}
+use Prim.Native.Nat.{◌≤◌, ◌<◌}
 use mathlib.Core.Path.{◌≡◌, ap}
-use mathlib.Core.Logic.{⊎_elim}
 use mathlib.Core.Bool.{not}
 use native.Mathlib.Omega.{arith}
 use lib.ListN.{length}
@@ -11,7 +10,7 @@ use borrow.Author.Tests.{eq-eqb, ne_eqb}
 use Rattle.rules.specs.declared.Book.{Book}
 use Rattle.rules.specs.Book.{other_ticket}
 use Rattle.ledger.specs.Lists.{unmapped}
-use Rattle.ledger.specs.Remove.{Kept, kept_none, kept_le, kept_next, kept_same, kept_book, kept_count}
+use Rattle.ledger.specs.Remove.{Kept, kept_le, kept_next, kept_same, kept_book, kept_count}
 use Rattle.ledger.proofs.remove_ticket.Goals as goal
 use Rattle.ledger.proofs.remove_ticket.Goals.{At-loop-i, then-x-ticket, else-x-ticket}
 
@@ -38,11 +37,10 @@ loop-i-preserved c =
     let F = other_ticket c.args.ticket in
     let K = c.loop-i.invariant.1 in
     let n : length c.args.b.rows ≡ 1024 = search (unmapped, rules) in
-    let h : c.loop-i.i < length c.args.b.rows = omega (arith, n) in
-    (
+    let h : c.loop-i.i < length c.args.b.rows = omega (arith, n) in (
       omega arith,
       elim c.if-x-ticket.branch [
-        then-x-ticket w ↦ kept_next F K h (omega arith) (ap not (ne_eqb _ _ w.if-x-ticket.true)) (ap (λ (x : Book). x.rows) w.out-is) w.kept-is
+        | then-x-ticket w ↦ kept_next F K h (omega arith) (ap not (ne_eqb _ _ w.if-x-ticket.true)) (ap (λ (x : Book). x.rows) w.out-is) w.kept-is
         | else-x-ticket w ↦ kept_same F K h (ap not (eq-eqb _ _ w.if-x-ticket.false)) (ap (λ (x : Book). x.rows) w.out-is) w.kept-is
       ],
     )

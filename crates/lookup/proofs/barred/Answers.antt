@@ -1,12 +1,10 @@
 -- `lookup::barred` meets its contract: a way to p ends with a row that enters p at t, one from q begins with a row of q that exits at t,
 -- and what a booked run does is not barred.
-use mathlib.Core.Path.{refl, sym}
+use mathlib.Core.Path.{refl}
 use native.Mathlib.Omega.{arith}
-use borrow.Author.Rules.{rules}
-use borrow.Author.Tests.{not-true}
 use Rattle.laws.specs.Tests.{not_both}
 use Rattle.rules.specs.Rows.Leads.{one}
-use Rattle.lookup.specs.Crossings.{run_up, leads_enters, among_crosses, none_leaves, booked_unbarred}
+use Rattle.lookup.specs.Crossings.{run_up, leads_enters, among_crosses, none_leaves}
 use Rattle.lookup.proofs.barred.Goals as goal
 
 pub returns-then-not-entered : goal.returns-then-not-entered

@@ -1,6 +1,5 @@
 -- `lookup::crossed` meets its contract: a row of p with exit t and next place q goes from p to q at t.
 use native.Mathlib.Omega.{arith}
-use borrow.Author.Rules.{rules}
 use Rattle.lookup.specs.Crossings.{run_up, among_crosses}
 use Rattle.lookup.proofs.crossed.Goals as goal
 

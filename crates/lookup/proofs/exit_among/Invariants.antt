@@ -1,11 +1,7 @@
 -- `lookup::exit_among` meets its contract: c of the rows passed exit at t, so that none does where c is 0. The rest falls.
 use Prim.Native.Nat.{◌+◌}
-use mathlib.Core.Path.{◌≡◌, ◌∙◌}
-use mathlib.Core.Logic.{⊎_elim}
-use native.Mathlib.Omega.{arith}
-use borrow.Author.Rules.{rules}
-use borrow.Author.Tests.{ltb-false}
-use Rattle.lookup.specs.Crossings.{Counted, counted_start, counted_here, counted_other}
+use mathlib.Core.Path.{◌≡◌}
+use Rattle.lookup.specs.Crossings.{Counted}
 use Rattle.lookup.proofs.exit_among.Given as goal
 
 abbrev pub invariant-loop-rest : goal.invariant-loop-rest

@@ -1,11 +1,6 @@
 -- `lookup::expand` meets its contract: of the rows passed, those that leave x at t go on to marked places and not to p.
 use Prim.Native.Nat.{◌-◌, ◌≤◌}
-use mathlib.Core.Path.{sym, ◌∙◌}
-use mathlib.Core.Logic.{⊎_elim}
-use native.Mathlib.Omega.{arith}
-use borrow.Author.Rules.{rules}
-use Rattle.laws.specs.Tests.{not_both}
-use Rattle.lookup.specs.Spread.{Looked, looked_start, looked_skip, looked_put, looked_met, looked_all, looked_as}
+use Rattle.lookup.specs.Spread.{Looked}
 use Rattle.lookup.proofs.expand.Given as goal
 
 abbrev pub invariant-loop-i : goal.invariant-loop-i

@@ -1,9 +1,7 @@
 -- `lookup::fill_hints` meets its contract: the table keeps its length.
 use Prim.Native.Nat.{◌-◌, ◌≤◌}
-use mathlib.Core.Path.{◌≡◌, ◌∙◌}
-use native.Mathlib.Omega.{arith}
-use lib.ListN.{length, length-set}
-use borrow.Author.Rules.{rules}
+use mathlib.Core.Path.{◌≡◌}
+use lib.ListN.{length}
 use Rattle.lookup.proofs.fill_hints.Given as goal
 
 abbrev pub invariant-loop-i : goal.invariant-loop-i

@@ -1,12 +1,6 @@
 -- `lookup::first_back` meets its contract: no key passed is below k, and where one is all before it are.
-use Prim.Native.Nat.{ℕ, ◌-◌, ◌≤◌, ◌<◌}
-use mathlib.Core.Path.{◌≡◌, ap}
-use mathlib.Core.Logic.{⊎_elim}
-use native.Mathlib.Omega.{arith}
-use borrow.Author.Rules.{rules}
-use Rattle.laws.specs.Order.{lt_or_ge}
+use Prim.Native.Nat.{ℕ, ◌≤◌, ◌<◌}
 use Rattle.laws.specs.Lists.{at}
-use Rattle.lookup.specs.Keys.{weakly}
 use Rattle.lookup.proofs.first_back.Given as goal
 
 abbrev pub invariant-loop-a : goal.invariant-loop-a

@@ -1,11 +1,7 @@
 -- The first key that is not below k is found. The loop keeps the stretch base .. base + left in which it must be; a turn halves it, by a
 -- hop that is 0 or the upper half's start. What is left falls.
-use Prim.Native.Nat.{◌+◌, ◌/◌}
-use native.Mathlib.Omega.{arith}
-use Rattle.laws.specs.Order.{lt_or_ge}
 use Rattle.laws.specs.Lists.{at}
-use Rattle.lookup.specs.Search.{Among, among_start, among_end, among_hop}
-use Rattle.lookup.specs.Keys.{weakly}
+use Rattle.lookup.specs.Search.{Among}
 use Rattle.lookup.proofs.first_from.Given as goal
 
 abbrev pub invariant-loop-left : goal.invariant-loop-left

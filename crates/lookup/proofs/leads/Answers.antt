@@ -1,13 +1,11 @@
 -- `lookup::leads` meets its contract: the places before h on the list are expanded; when all are, the marks are closed under crossings. All rows of
 -- a place that exit at t are among those that are read.
-use Prim.Native.Nat.{◌-◌}
 use mathlib.Core.Path.{refl}
 use native.Mathlib.Omega.{arith}
-use borrow.Author.Rules.{rules}
 use Rattle.laws.specs.Tests.{not_both}
 use Rattle.flat.specs.Flat.{rows_in}
 use Rattle.lookup.specs.Lists.{listing_start}
-use Rattle.lookup.specs.Spread.{Going, list_few, spread_as, going_start, going_turn, going_met, going_none}
+use Rattle.lookup.specs.Spread.{spread_as, going_turn, going_met, going_none}
 use Rattle.lookup.specs.Crossings.{run_up, onward_crossing, crossing_onward}
 use Rattle.lookup.proofs.leads.Goals as goal
 

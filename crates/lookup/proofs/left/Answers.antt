@@ -1,6 +1,5 @@
 -- `lookup::left` meets its contract: a way from x begins with a row of x that exits at t.
 use native.Mathlib.Omega.{arith}
-use borrow.Author.Rules.{rules}
 use Rattle.lookup.specs.Crossings.{run_up, none_leaves}
 use Rattle.lookup.proofs.left.Goals as goal
 

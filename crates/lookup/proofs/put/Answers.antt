@@ -1,6 +1,5 @@
 -- `lookup::put` meets its contract: where y is not marked there is room on the list.
-use borrow.Author.Rules.{rules}
-use Rattle.lookup.specs.Lists.{put_none_at, put_room_at, put_one_at}
+use Rattle.lookup.specs.Lists.{put_room_at, put_one_at}
 use Rattle.lookup.proofs.put.Goals as goal
 
 pub bounds-list-len : goal.bounds-list-len

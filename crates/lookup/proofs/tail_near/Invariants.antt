@@ -1,9 +1,5 @@
 -- `lookup::tail_near` meets its contract: the row at which it ends is one of a .. b.
-use Prim.Native.Nat.{◌-◌, ◌≤◌}
-use native.Mathlib.Omega.{arith}
-use mathlib.Core.Path.{refl}
-use borrow.Author.Rules.{rules}
-use Rattle.laws.specs.Tests.{not_both}
+use Prim.Native.Nat.{◌≤◌}
 use Rattle.lookup.proofs.tail_near.Given as goal
 
 abbrev pub invariant-loop-left : goal.invariant-loop-left

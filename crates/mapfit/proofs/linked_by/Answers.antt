@@ -3,8 +3,7 @@
 use Prim.Native.Nat.{◌-◌}
 use mathlib.Core.Path.{◌≡◌}
 use native.Mathlib.Omega.{arith}
-use borrow.Author.Rules.{rules}
-use Rattle.mapfit.specs.Walk.{Walk, Elsewhere, head_within, chain_within, walk_first, walk_turn, linked_found, linked_nowhere}
+use Rattle.mapfit.specs.Walk.{chain_within, walk_first, walk_turn, linked_found, linked_nowhere}
 use Rattle.mapfit.proofs.linked_by.Goals as goal
 
 pub loop-l-init : goal.loop-l-init

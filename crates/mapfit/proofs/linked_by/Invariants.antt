@@ -1,10 +1,6 @@
 -- `mapfit::linked_by` meets its contract: the walk goes down the list of p, and no link passed goes to q. A link that goes there is the one looked
 -- for; at the list's end every link of p is passed. The link's number falls with each turn.
-use Prim.Native.Nat.{◌-◌}
-use mathlib.Core.Path.{◌≡◌}
-use native.Mathlib.Omega.{arith}
-use borrow.Author.Rules.{rules}
-use Rattle.mapfit.specs.Walk.{Walk, Elsewhere, head_within, chain_within, walk_first, walk_turn, linked_found, linked_nowhere}
+use Rattle.mapfit.specs.Walk.{Walk, Elsewhere}
 use Rattle.mapfit.proofs.linked_by.Given as goal
 
 abbrev pub invariant-loop-l : goal.invariant-loop-l

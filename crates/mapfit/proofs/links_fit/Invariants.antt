@@ -1,11 +1,6 @@
 -- `mapfit::links_fit` meets its contract: the links before j fit, so the first one that does not refuses the map.
 use Prim.Native.Nat.{◌-◌, ◌≤◌}
-use mathlib.Core.Path.{◌≡◌, refl}
-use native.Mathlib.Omega.{arith}
-use borrow.Author.Tests.{not-true, not-false}
-use borrow.Author.Rules.{rules}
-use Rattle.laws.specs.Tests.{not_both}
-use Rattle.mapfit.specs.Fits.{LinksFit, links_none, links_next}
+use Rattle.mapfit.specs.Fits.{LinksFit}
 use Rattle.mapfit.proofs.links_fit.Given as goal
 
 abbrev pub invariant-loop-j : goal.invariant-loop-j

@@ -1,12 +1,7 @@
 -- `mapfit::links_once` meets its contract: the places below p have no two links to the same place, and no mark is above p, so that the walk of p can
 -- tell its own marks. With each link from a place below n, the places' links are all links.
 use Prim.Native.Nat.{◌-◌, ◌≤◌}
-use mathlib.Core.Path.{◌≡◌, refl}
-use native.Mathlib.Omega.{arith}
-use borrow.Author.Tests.{not-true, not-false}
-use borrow.Author.Rules.{rules}
-use Rattle.laws.specs.Tests.{not_both}
-use Rattle.mapfit.specs.Walk.{Walked, walked_first, walked_next, walked_all, once_from}
+use Rattle.mapfit.specs.Walk.{Walked}
 use Rattle.mapfit.proofs.links_once.Given as goal
 
 abbrev pub invariant-loop-p : goal.invariant-loop-p

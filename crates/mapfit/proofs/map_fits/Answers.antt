@@ -1,8 +1,6 @@
 -- `mapfit::map_fits` meets its contract: each early answer is a rule that the map breaks, and the last call decides the one rule that is left.
 -- The lists of links are made before it, for that call and for the caller.
 use native.Mathlib.Omega.{arith}
-use borrow.Author.Tests.{not-true, not-false}
-use borrow.Author.Rules.{rules}
 use Rattle.laws.specs.Tests.{not_both}
 use Rattle.mapfit.specs.Fits.{no_place, many_places, many_links, bad_place, bad_link, answered}
 use Rattle.mapfit.proofs.map_fits.Goals as goal

@@ -1,11 +1,8 @@
 -- `mapfit::place_once` meets its contract: the places that the links passed go to are those marked p + 1. A place found with that mark has two links
 -- from p; where none is found, every link of p goes to a place of its own. The link's number falls with each turn.
 use Prim.Native.Nat.{◌-◌}
-use mathlib.Core.Path.{◌≡◌, refl}
 use native.Mathlib.Omega.{arith}
-use borrow.Author.Rules.{rules}
-use Rattle.laws.specs.Tests.{not_both}
-use Rattle.mapfit.specs.Walk.{head_within, chain_within, Marking, marking_first, marking_turn, marking_twice, marking_once}
+use Rattle.mapfit.specs.Walk.{chain_within, marking_first, marking_turn}
 use Rattle.mapfit.proofs.place_once.Goals as goal
 
 pub loop-l-init : goal.loop-l-init

@@ -1,11 +1,6 @@
 -- `mapfit::places_fit` meets its contract: the places before p fit, so the first one that does not refuses the map.
 use Prim.Native.Nat.{◌-◌, ◌≤◌}
-use mathlib.Core.Path.{◌≡◌, refl}
-use native.Mathlib.Omega.{arith}
-use borrow.Author.Tests.{not-true, not-false}
-use borrow.Author.Rules.{rules}
-use Rattle.laws.specs.Tests.{not_both}
-use Rattle.mapfit.specs.Fits.{PlacesFit, places_none, places_next}
+use Rattle.mapfit.specs.Fits.{PlacesFit}
 use Rattle.mapfit.proofs.places_fit.Given as goal
 
 abbrev pub invariant-loop-p : goal.invariant-loop-p

@@ -1,7 +1,5 @@
 -- The cursor after some rows is the last one's key: of no rows it is the cursor given.
 use mathlib.Core.Path.{◌∙◌}
-use native.Mathlib.Omega.{arith}
-use borrow.Author.Rules.{rules}
 use Rattle.rules.specs.Rows.{cursor_key}
 use Rattle.pages.specs.Shown.{last_none, last_some}
 use Rattle.pages.proofs.cursor_after.Goals as goal

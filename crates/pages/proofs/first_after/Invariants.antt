@@ -1,12 +1,8 @@
 -- The first row above the cursor is found: the loop keeps a stretch with no row above the cursor before it and only such after it, and
 -- the row in its middle tells which half to keep. The stretch gets shorter.
-use Prim.Native.Nat.{◌+◌, ◌-◌, ◌/◌}
-use mathlib.Core.Path.{◌≡◌, sym, ap, ◌∙◌}
-use native.Mathlib.Omega.{arith}
-use borrow.Author.Rules.{rules}
-use Rattle.rules.specs.declared.Row.{Row}
-use Rattle.rules.specs.Rows.{cursor_key, row_key, lessb}
-use Rattle.pages.specs.Search.{Between, above, between_start, between_yes, between_no, between_end}
+use Prim.Native.Nat.{◌-◌}
+use Rattle.rules.specs.Rows.{cursor_key}
+use Rattle.pages.specs.Search.{Between}
 use Rattle.pages.proofs.first_after.Given as goal
 
 abbrev pub invariant-loop-lo : goal.invariant-loop-lo

@@ -3,7 +3,6 @@
 use Prim.Native.Nat.{◌≤◌}
 use mathlib.Core.Path.{refl}
 use native.Mathlib.Omega.{arith}
-use borrow.Author.Rules.{rules}
 use Rattle.rules.specs.Rows.{cursor_key}
 use Rattle.pages.specs.Shown.{first_within, page_done}
 use Rattle.pages.proofs.page_of.Goals as goal

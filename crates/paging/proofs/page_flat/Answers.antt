@@ -1,7 +1,6 @@
 -- `paging::page_flat` meets its contract: what vetting refuses is refused, and of a sound book, whose keys rise, a page is shown.
 use mathlib.Core.Path.{refl, sym, ◌∙◌}
 use native.Mathlib.Omega.{arith}
-use borrow.Author.Rules.{rules}
 use Rattle.laws.specs.Lists.{zeros}
 use Rattle.rules.specs.Gate.Checked.{sound}
 use Rattle.flat.specs.Flat.{yard_in}

@@ -3,7 +3,6 @@
 use Prim.Native.Nat.{◌+◌}
 use mathlib.Core.Path.{◌≡◌, refl, sym}
 use native.Mathlib.Omega.{arith}
-use borrow.Author.Rules.{rules}
 use lib.ListN.{get_or-replicate}
 use Rattle.search.specs.Lanes.{lanes_ground}
 use Rattle.flat.specs.Links.{group_end}

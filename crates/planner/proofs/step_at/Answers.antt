@@ -1,8 +1,6 @@
 -- `planner::step_at` meets its contract: the row of a window on a path is known by the window and the one after it.
 use Prim.Native.Nat.{◌+◌}
 use mathlib.Core.Path.{ap, ◌∙◌}
-use native.Mathlib.Omega.{arith}
-use borrow.Author.Rules.{rules}
 use Rattle.laws.specs.Lists.{at}
 use Rattle.rules.specs.Rows.{row}
 use Rattle.planner.specs.Route.{goes_row, step_goes, step_last}

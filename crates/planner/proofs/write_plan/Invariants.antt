@@ -1,11 +1,9 @@
 -- `planner::write_plan` meets its contract: after j turns the first j rows stand at the front of the list and the rest is as it was.
 use Prim.Native.Nat.{◌-◌}
-use native.Mathlib.Omega.{arith}
 use lib.ListN.{take}
-use borrow.Author.Rules.{rules}
 use Rattle.rules.specs.Plan.{run_rows}
 use Rattle.planner.specs.Choice.{plan_of}
-use Rattle.planner.specs.Route.{Writing, writing_start, writing_next, writing_end, path_rows}
+use Rattle.planner.specs.Route.{Writing}
 use Rattle.planner.proofs.write_plan.Given as goal
 
 abbrev pub invariant-loop-j : goal.invariant-loop-j

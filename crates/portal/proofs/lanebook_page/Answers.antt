@@ -1,7 +1,6 @@
 -- `portal::lanebook_page` meets its contract: the arrays are the slices, or break a rule where the slices' shape does, so that one call of
 -- paging over them decides all.
 use mathlib.Core.Path.{refl}
-use borrow.Author.Rules.{rules}
 use Rattle.laws.specs.Lists.{zeros}
 use Rattle.portal.specs.Read.{portal_page}
 use Rattle.desk.specs.Few.{page_few}

@@ -5,7 +5,6 @@ use Prim.Native.Nat.{◌<◌}
 use mathlib.Core.Path.{refl}
 use native.Mathlib.Omega.{arith}
 use lib.ListN.{length}
-use borrow.Author.Rules.{rules}
 use Rattle.laws.specs.Lists.{zeros}
 use Rattle.portal.specs.Read.{portal_plan}
 use Rattle.desk.specs.Few.{plan_few}

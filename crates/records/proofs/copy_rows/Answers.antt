@@ -1,5 +1,5 @@
 -- One more row is copied over the first record that is still as it was.
-use Rattle.std.proofs.Common.{◌≡◌, ℕ, zero, suc, ◌+◌, ◌<◌, ◌≤◌, List, [], ◌∷◌, ◌++◌, length, get_or, take, drop, set, refl, ap, add-one, ◌∙◌, arith, rules, length-set}
+use Rattle.std.proofs.Common.{◌≡◌, ℕ, zero, suc, ◌<◌, List, [], ◌∷◌, ◌++◌, length, get_or, take, drop, set, refl, ap, add-one, arith, rules, length-set}
 use Rattle.rules.specs.declared.Row.{Row}
 use Rattle.rules.specs.Rows.{no_row}
 use Rattle.records.proofs.copy_rows.Goals as goal

@@ -3,14 +3,12 @@ use mathlib.Core.List.{List}
 use Prim.Native.Nat.{ℕ}
 use mathlib.Core.Path.{◌≡◌}
 use lib.ListN.{length, replicate, length-replicate}
-use borrow.Author.Rules.{rules}
 use Rattle.rules.specs.Bytes.{list_size}
-use Rattle.records.specs.Found.{lent_fits, lent_length, lent_back, page_readable, page_front}
+use Rattle.records.specs.Found.{page_front}
 use Rattle.records.proofs.find_page.Goals as goal
 
 abbrev list : List ℕ
 list = replicate list_size 0
-
 
 long : length list ≡ list_size
 long = length-replicate {A = ℕ} list_size 0

@@ -1,12 +1,8 @@
 -- `search::first_entry` meets its contract: every second passed is barred, so that the first that is not is the least.
 -- The seconds up to hi are left to look at.
 use Prim.Native.Nat.{◌+◌, ◌-◌}
-use native.Mathlib.Omega.{arith}
-use borrow.Author.Rules.{rules}
-use borrow.Author.Tests.{not-true, not-false}
-use Rattle.laws.specs.Tests.{not_both}
 use Rattle.flat.specs.Flat.{rows_in}
-use Rattle.search.specs.Entries.{Passed, passed_none, passed_more, passed_all, passed_to}
+use Rattle.search.specs.Entries.{Passed}
 use Rattle.search.proofs.first_entry.Given as goal
 
 abbrev pub invariant-window : goal.invariant-window

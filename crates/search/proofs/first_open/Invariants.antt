@@ -1,10 +1,6 @@
 -- `search::first_open` meets its contract: what lies before lo ends too soon and what lies from hi on ends late enough, since ends rise.
 use Prim.Native.Nat.{◌-◌}
-use mathlib.Core.Path.{◌≡◌}
-use native.Mathlib.Omega.{arith}
-use borrow.Author.Rules.{rules}
-use Rattle.laws.specs.Lists.{at}
-use Rattle.search.specs.Offers.{OpenFrom, open_start, open_more, open_less}
+use Rattle.search.specs.Offers.{OpenFrom}
 use Rattle.search.proofs.first_open.Given as goal
 
 abbrev pub invariant-loop-lo : goal.invariant-loop-lo

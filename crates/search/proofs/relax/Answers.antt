@@ -3,7 +3,6 @@
 use Prim.Native.Nat.{ℕ, suc, ◌+◌, ◌-◌, ◌<◌}
 use mathlib.Core.Path.{◌≡◌, refl, sym, ap, subst, ◌∙◌}
 use native.Mathlib.Omega.{arith}
-use borrow.Author.Rules.{rules}
 use Rattle.laws.specs.Lists.{at}
 use Rattle.flat.specs.Flat.{rows_in}
 use Rattle.flat.specs.Laws.{last_is}

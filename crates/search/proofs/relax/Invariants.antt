@@ -1,14 +1,8 @@
 -- `search::relax` meets its contract: the links of p are followed from the last to the first, each offering the windows of the place that it leads to;
 -- the other windows have no entry from w. The number of the link falls.
-use Prim.Native.Nat.{ℕ, suc, ◌+◌, ◌-◌, ◌<◌}
-use mathlib.Core.Path.{◌≡◌, refl, sym, ap, subst, ◌∙◌}
-use native.Mathlib.Omega.{arith}
-use borrow.Author.Rules.{rules}
 use Rattle.laws.specs.Lists.{at}
 use Rattle.flat.specs.Flat.{rows_in}
-use Rattle.flat.specs.Laws.{last_is}
-use Rattle.flat.specs.Links.{group_place, group_end}
-use Rattle.search.specs.Relax.{AlongLinks, along_start, along_next, along_end}
+use Rattle.search.specs.Relax.{AlongLinks}
 use Rattle.search.proofs.relax.Given as goal
 
 abbrev pub invariant-loop-cur : goal.invariant-loop-cur

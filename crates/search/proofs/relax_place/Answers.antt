@@ -1,12 +1,8 @@
 -- `search::relax_place` meets its contract: windows that end too soon are passed over, each other one is tried, and where one starts too late so do
 -- all that come after it.
-use Prim.Native.Nat.{◌-◌, ◌<◌}
-use mathlib.Core.Path.{◌≡◌}
+use Prim.Native.Nat.{◌<◌}
 use native.Mathlib.Omega.{arith}
-use borrow.Author.Rules.{rules}
-use Rattle.laws.specs.Lists.{at}
-use Rattle.flat.specs.Flat.{rows_in}
-use Rattle.search.specs.Offers.{Relaxing, offered_start, offered_next, offered_rest, ends_rise}
+use Rattle.search.specs.Offers.{offered_next, offered_rest}
 use Rattle.search.proofs.relax_place.Goals as goal
 
 pub returns-then-from-leave : goal.returns-then-from-leave

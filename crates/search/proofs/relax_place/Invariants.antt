@@ -1,12 +1,8 @@
 -- `search::relax_place` meets its contract: windows that end too soon are passed over, each other one is tried, and where one starts too late so do
 -- all that come after it.
-use Prim.Native.Nat.{◌-◌, ◌<◌}
-use mathlib.Core.Path.{◌≡◌}
-use native.Mathlib.Omega.{arith}
-use borrow.Author.Rules.{rules}
-use Rattle.laws.specs.Lists.{at}
+use Prim.Native.Nat.{◌-◌}
 use Rattle.flat.specs.Flat.{rows_in}
-use Rattle.search.specs.Offers.{Relaxing, offered_start, offered_next, offered_rest, ends_rise}
+use Rattle.search.specs.Offers.{Relaxing}
 use Rattle.search.proofs.relax_place.Given as goal
 
 abbrev pub invariant-loop-v : goal.invariant-loop-v

@@ -2,12 +2,9 @@
 -- offers the way through it to every window; fewer windows are open after each turn. It may stop at the destination, since entries only rise.
 use mathlib.Core.Path.{sym, ◌∙◌}
 use native.Mathlib.Omega.{arith}
-use borrow.Author.Rules.{rules}
 use borrow.Author.Tests.{eq-eqb, ne_eqb}
-use Rattle.flat.specs.Flat.{rows_in, yard_in}
-use Rattle.settle.specs.Search.{Going, done_of, opens, going_start, going_none, going_goal, closed_above, going_less, going_turn, in_n, low_u}
-use Rattle.search.specs.Relax.{next_by}
-use Rattle.search.specs.Lanes.{is_at_dest, lanes_ground, lanes_kept, lanes_runs, lanes_mono, lanes_later}
+use Rattle.settle.specs.Search.{going_start, going_none, going_goal, closed_above, going_less, going_turn, in_n, low_u}
+use Rattle.search.specs.Lanes.{lanes_ground, lanes_kept, lanes_runs, lanes_mono, lanes_later}
 use Rattle.search.proofs.search.Goals as goal
 
 pub loop-live-init : goal.loop-live-init

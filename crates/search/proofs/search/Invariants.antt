@@ -1,13 +1,9 @@
 -- `search::search` meets its contract. The invariant is the search's own (`Going`); a turn settles the open window of least entry, of those the first, and
 -- offers the way through it to every window; fewer windows are open after each turn. It may stop at the destination, since entries only rise.
-use mathlib.Core.Path.{sym, ◌∙◌}
-use native.Mathlib.Omega.{arith}
-use borrow.Author.Rules.{rules}
-use borrow.Author.Tests.{eq-eqb, ne_eqb}
 use Rattle.flat.specs.Flat.{rows_in, yard_in}
-use Rattle.settle.specs.Search.{Going, done_of, opens, going_start, going_none, going_goal, closed_above, going_less, going_turn, in_n, low_u}
+use Rattle.settle.specs.Search.{Going, done_of, opens}
 use Rattle.search.specs.Relax.{next_by}
-use Rattle.search.specs.Lanes.{is_at_dest, lanes_ground, lanes_kept, lanes_runs, lanes_mono, lanes_later}
+use Rattle.search.specs.Lanes.{is_at_dest}
 use Rattle.search.proofs.search.Given as goal
 
 abbrev pub invariant-loop-live : goal.invariant-loop-live

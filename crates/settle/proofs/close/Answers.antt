@@ -3,7 +3,6 @@ use native.Mathlib.Omega.{arith}
 use Prim.Native.Nat.{◌/◌}
 use mathlib.Core.Path.{refl}
 use Rattle.settle.specs.Blocks.{blocks_set}
-use borrow.Author.Rules.{rules}
 use Rattle.settle.proofs.close.Goals as goal
 
 pub returns : goal.returns

@@ -1,9 +1,6 @@
 -- `settle::first_in` meets its contract: no window passed has the entry sought, and where none of the first 31 has it the last does.
 use native.Mathlib.Omega.{arith}
-use Prim.Native.Nat.{ℕ, ◌+◌, ◌-◌, ◌≤◌, ◌<◌}
-use lib.ListN.{get_or}
 use Rattle.settle.specs.Blocks.{found_last, above_more}
-use borrow.Author.Rules.{rules}
 use Rattle.settle.proofs.first_in.Goals as goal
 
 pub loop-w-preserved : goal.loop-w-preserved

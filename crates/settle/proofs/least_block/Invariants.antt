@@ -1,11 +1,8 @@
 -- `settle::least_block` meets its contract: k is the first of the least among the blocks passed.
-use native.Mathlib.Omega.{arith}
 use Prim.Native.Nat.{◌-◌, ◌≤◌}
-use mathlib.Core.Path.{◌≡◌, refl}
-use mathlib.Core.Logic.{⊎_elim}
+use mathlib.Core.Path.{◌≡◌}
 use lib.ListN.{get_or}
-use Rattle.settle.specs.Blocks.{FirstLeast, least_first, least_less, least_stay}
-use borrow.Author.Rules.{rules}
+use Rattle.settle.specs.Blocks.{FirstLeast}
 use Rattle.settle.proofs.least_block.Given as goal
 
 abbrev pub invariant-loop-j : goal.invariant-loop-j

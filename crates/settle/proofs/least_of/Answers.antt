@@ -1,9 +1,7 @@
 -- `settle::least_of` meets its contract: x is the least of the entries passed.
 use native.Mathlib.Omega.{arith}
-use Prim.Native.Nat.{◌-◌, ◌≤◌}
-use mathlib.Core.Path.{◌≡◌, refl}
+use mathlib.Core.Path.{refl}
 use Rattle.settle.specs.Blocks.{low, low_next}
-use borrow.Author.Rules.{rules}
 use Rattle.settle.proofs.least_of.Goals as goal
 
 pub loop-i-init : goal.loop-i-init

@@ -1,9 +1,7 @@
 -- `settle::least_of` meets its contract: x is the least of the entries passed.
-use native.Mathlib.Omega.{arith}
 use Prim.Native.Nat.{◌-◌, ◌≤◌}
-use mathlib.Core.Path.{◌≡◌, refl}
-use Rattle.settle.specs.Blocks.{low, low_next}
-use borrow.Author.Rules.{rules}
+use mathlib.Core.Path.{◌≡◌}
+use Rattle.settle.specs.Blocks.{low}
 use Rattle.settle.proofs.least_of.Given as goal
 
 abbrev pub invariant-loop-i : goal.invariant-loop-i

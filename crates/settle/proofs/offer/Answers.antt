@@ -1,8 +1,7 @@
 -- `settle::offer` meets its contract: a sooner entry is taken, with its block's least where it is lower; any other leaves all as it was.
 use native.Mathlib.Omega.{arith}
 use Prim.Native.Nat.{◌/◌}
-use Rattle.settle.specs.Blocks.{offer_took, offer_left, blocks_lower, blocks_same}
-use borrow.Author.Rules.{rules}
+use Rattle.settle.specs.Blocks.{offer_took, blocks_lower, blocks_same}
 use Rattle.settle.proofs.offer.Goals as goal
 
 pub returns-then-t-least : goal.returns-then-t-least

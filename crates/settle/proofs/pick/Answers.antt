@@ -1,8 +1,6 @@
 -- `settle::pick` meets its contract: the least of the blocks is the least of all, and the first block that has it holds the first window that has it.
 use native.Mathlib.Omega.{arith}
-use mathlib.Core.Path.{sym}
 use Rattle.settle.specs.Blocks.{picked_none, picked_one}
-use borrow.Author.Rules.{rules}
 use Rattle.settle.proofs.pick.Goals as goal
 
 pub returns-then-x-gt86400 : goal.returns-then-x-gt86400

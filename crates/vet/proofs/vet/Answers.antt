@@ -1,7 +1,5 @@
 -- `vet::vet` meets its contract: the map's test decides first, then the book's, which also finds the windows.
-use borrow.Author.Rules.{rules}
-use Rattle.vet.specs.Vetted.{vet_map, vet_book}
-use borrow.Author.Tests.{not-true, not-false}
+use Rattle.vet.specs.Vetted.{vet_book}
 use Rattle.vet.proofs.vet.Goals as goal
 
 pub returns : goal.returns

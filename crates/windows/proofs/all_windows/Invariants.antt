@@ -1,10 +1,8 @@
 -- The windows written are the free windows of all places in order of place and start, and 1,281 is returned exactly where a place is overfull. The
 -- loop keeps this for the first p places, whose rows are the first a and whose windows the first w: `past` finds the run of rows of place p, and
 -- the sweep adds its windows after those. A place has at most one window more than rows, so there are never more than 1,280. n - p falls.
-use native.Mathlib.Omega.{arith}
 use Prim.Native.Nat.{◌-◌}
-use Rattle.windows.specs.Going.{Going, going_none, going_sweepable, going_over, going_next, going_done}
-use borrow.Author.Rules.{rules}
+use Rattle.windows.specs.Going.{Going}
 use Rattle.windows.proofs.all_windows.Given as goal
 
 abbrev pub invariant-loop-p : goal.invariant-loop-p

@@ -1,12 +1,7 @@
 -- The number returned is where the least of the first c kept exits stands. The loop keeps that j is where the least of the first k stands; each
 -- turn compares one more, and c - k falls.
-use native.Mathlib.Omega.{arith}
 use Prim.Native.Nat.{◌≤◌, ◌-◌}
-use mathlib.Core.Path.{subst}
-use mathlib.Core.Logic.{⊎_elim}
 use Rattle.windows.specs.Sweep.{LeastAt}
-use Rattle.windows.specs.Loads.{least_first, least_take, least_keep}
-use borrow.Author.Rules.{rules}
 use Rattle.windows.proofs.least_at.Given as goal
 
 abbrev pub invariant-loop-k : goal.invariant-loop-k

@@ -1,9 +1,7 @@
 -- The number returned is the first row from a on that is not of place p, count where there is none. The loop keeps that the rows passed over are
 -- of p; it ends at the first that is not or at the last row, and count - i falls.
 use Prim.Native.Nat.{◌-◌}
-use mathlib.Core.Path.{sym, ◌∙◌}
-use borrow.Author.Rules.{rules}
-use Rattle.windows.specs.Runs.{Passing, passing_none, passing_next, past_here, past_end}
+use Rattle.windows.specs.Runs.{Passing}
 use Rattle.windows.proofs.past.Given as goal
 
 abbrev pub invariant-loop-i : goal.invariant-loop-i

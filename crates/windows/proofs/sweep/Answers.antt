@@ -3,14 +3,10 @@
 -- them lie ahead makes the place overfull, and the stretch from `free` up to its entry is a window where the place fills up and the stretch lasts.
 -- n - i falls.
 use native.Mathlib.Omega.{arith}
-use Prim.Native.Nat.{ℕ, ◌≤◌, ◌-◌}
+use Prim.Native.Nat.{ℕ}
 use lib.ListN.{replicate, length-replicate}
-use mathlib.Core.Logic.{⊎_elim}
-use Rattle.windows.specs.Sweep.{entries_from, exits_from}
 use Rattle.windows.specs.Loads.{zeros}
-use Rattle.windows.specs.Turns.{State, state_none, too_many, state_room, state_short, state_more, answer_over, answer_short, answer_more}
-use Rattle.flat.specs.Flat.{span_at}
-use borrow.Author.Rules.{rules}
+use Rattle.windows.specs.Turns.{state_none, too_many, state_room, state_short, state_more, answer_over, answer_more}
 use Rattle.windows.proofs.sweep.Goals as goal
 use Rattle.windows.proofs.sweep.Goals.{then-t-u+then-free-d, then-t-u+else-free-d, else-t-u}
 
@@ -32,19 +28,18 @@ loop-i-preserved c =
     let e = c.entry_of-t.ensures in
     let q = c.if-t-top.false in
     let x = c.exit_of.ensures.0 in
-    let A = rw x at c.least_at-low.ensures in
-    (
+    let A = rw x at c.least_at-low.ensures in (
       omega arith,
       elim c.if-t-u.branch [
-        then-t-u+then-free-d w ↦
-          rw (w.start-is, w.end-is, w.place-is, w.w-is, w.free-is, e, x)
-          (state_more G.rows G.cap_to G.dur_from I h (omega (arith, e, q)) A (omega (arith, e, rw x at w.if-t-u.true)) (omega (arith, e, w.if-free-d.true)) (omega (arith, I.few)))
+        | then-t-u+then-free-d w ↦
+            rw (w.start-is, w.end-is, w.place-is, w.w-is, w.free-is, e, x)
+            (state_more G.rows G.cap_to G.dur_from I h (omega (arith, e, q)) A (omega (arith, e, rw x at w.if-t-u.true)) (omega (arith, e, w.if-free-d.true)) (omega (arith, I.few)))
         | then-t-u+else-free-d w ↦
-          rw (w.start-is, w.end-is, w.place-is, w.w-is, w.free-is, x)
-          (state_short G.rows G.cap_to G.dur_from I h (omega (arith, e, q)) A (omega (arith, e, rw x at w.if-t-u.true)) (omega (arith, e, w.if-free-d.false)))
+            rw (w.start-is, w.end-is, w.place-is, w.w-is, w.free-is, x)
+            (state_short G.rows G.cap_to G.dur_from I h (omega (arith, e, q)) A (omega (arith, e, rw x at w.if-t-u.true)) (omega (arith, e, w.if-free-d.false)))
         | else-t-u w ↦
-          rw (w.start-is, w.end-is, w.place-is, w.w-is, w.free-is, x)
-          (state_room G.rows G.cap_to G.dur_from I h (omega (arith, e, q)) A (omega (arith, e, rw x at w.if-t-u.false)))
+            rw (w.start-is, w.end-is, w.place-is, w.w-is, w.free-is, x)
+            (state_room G.rows G.cap_to G.dur_from I h (omega (arith, e, q)) A (omega (arith, e, rw x at w.if-t-u.false)))
       ],
     )
 

@@ -2,15 +2,10 @@
 -- keeps, for every second from the last entry on, that the load so far is the number of kept exits above it: a row that enters while all of
 -- them lie ahead makes the place overfull, and the stretch from `free` up to its entry is a window where the place fills up and the stretch lasts.
 -- n - i falls.
-use native.Mathlib.Omega.{arith}
-use Prim.Native.Nat.{ℕ, ◌≤◌, ◌-◌}
-use lib.ListN.{replicate, length-replicate}
-use mathlib.Core.Logic.{⊎_elim}
+use Prim.Native.Nat.{◌≤◌, ◌-◌}
 use Rattle.windows.specs.Sweep.{entries_from, exits_from}
-use Rattle.windows.specs.Loads.{zeros}
-use Rattle.windows.specs.Turns.{State, state_none, too_many, state_room, state_short, state_more, answer_over, answer_short, answer_more}
+use Rattle.windows.specs.Turns.{State}
 use Rattle.flat.specs.Flat.{span_at}
-use borrow.Author.Rules.{rules}
 use Rattle.windows.proofs.sweep.Given as goal
 
 abbrev pub invariant-loop-i : goal.invariant-loop-i

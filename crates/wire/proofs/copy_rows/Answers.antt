@@ -1,9 +1,6 @@
 -- `wire::copy_rows` meets its contract: after j turns the first j rows are written, and each turn puts one more over the next record.
-use Prim.Native.Nat.{◌-◌, ◌≤◌}
-use mathlib.Core.Path.{◌≡◌}
 use native.Mathlib.Omega.{arith}
-use Rattle.wire.specs.Written.{Copied, copied_start, copied_next}
-use borrow.Author.Rules.{rules}
+use Rattle.wire.specs.Written.{copied_start, copied_next}
 use Rattle.wire.proofs.copy_rows.Goals as goal
 
 pub loop-j-init : goal.loop-j-init

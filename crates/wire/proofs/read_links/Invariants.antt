@@ -1,9 +1,6 @@
 -- `wire::read_links` meets its contract: after j turns the arrays hold the first j links of the slice, two bytes each.
 use Prim.Native.Nat.{◌-◌, ◌≤◌}
-use mathlib.Core.Path.{◌≡◌, refl}
-use native.Mathlib.Omega.{arith}
-use Rattle.wire.specs.Reading.{LinksRead, no_links, link_read, all_links}
-use borrow.Author.Rules.{rules}
+use Rattle.wire.specs.Reading.{LinksRead}
 use Rattle.wire.proofs.read_links.Given as goal
 
 abbrev pub invariant-loop-j : goal.invariant-loop-j

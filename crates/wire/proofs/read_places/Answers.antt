@@ -1,9 +1,7 @@
 -- `wire::read_places` meets its contract: after p turns the arrays hold the first p places of the slice, three bytes each.
-use Prim.Native.Nat.{◌-◌, ◌≤◌}
-use mathlib.Core.Path.{◌≡◌, refl}
+use mathlib.Core.Path.{◌≡◌}
 use native.Mathlib.Omega.{arith}
-use Rattle.wire.specs.Reading.{PlacesRead, no_places, place_read, all_places}
-use borrow.Author.Rules.{rules}
+use Rattle.wire.specs.Reading.{all_places}
 use Rattle.wire.proofs.read_places.Goals as goal
 
 pub returns : goal.returns

@@ -1,9 +1,6 @@
 -- `wire::read_places` meets its contract: after p turns the arrays hold the first p places of the slice, three bytes each.
 use Prim.Native.Nat.{◌-◌, ◌≤◌}
-use mathlib.Core.Path.{◌≡◌, refl}
-use native.Mathlib.Omega.{arith}
-use Rattle.wire.specs.Reading.{PlacesRead, no_places, place_read, all_places}
-use borrow.Author.Rules.{rules}
+use Rattle.wire.specs.Reading.{PlacesRead}
 use Rattle.wire.proofs.read_places.Given as goal
 
 abbrev pub invariant-loop-p : goal.invariant-loop-p

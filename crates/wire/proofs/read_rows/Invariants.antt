@@ -1,9 +1,6 @@
 -- `wire::read_rows` meets its contract: after j turns the arrays hold the first j rows of the slice, eleven bytes each; a key not yet read is zero, so packed.
 use Prim.Native.Nat.{◌-◌, ◌≤◌}
-use mathlib.Core.Path.{◌≡◌}
-use native.Mathlib.Omega.{arith}
-use Rattle.wire.specs.Reading.{RowsRead, no_rows, row_read, all_rows}
-use borrow.Author.Rules.{rules}
+use Rattle.wire.specs.Reading.{RowsRead}
 use Rattle.wire.proofs.read_rows.Given as goal
 
 abbrev pub invariant-loop-j : goal.invariant-loop-j
