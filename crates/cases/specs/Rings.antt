@@ -1,9 +1,9 @@
 -- Cases of rings, on six small maps: booked crossings of one second lead from where a wagon goes back to where it comes from, or fall short of
 -- that. They hold as a whole, by the test of the nine.
-use Rattle.std.specs.Prelude.{ℕ, ◌+◌, refl, Bool}
+use Rattle.std.specs.Prelude.{◌≡◌, true, ℕ, ◌+◌, refl, Bool}
 use mathlib.Core.List.{List, [], ◌∷◌, Memᴰ}
 use Rattle.rules.specs.Plan.{Stay}
-use Rattle.cases.specs.Checks.{all_out}
+use Rattle.cases.specs.Checks.{all_b, all_out}
 use Rattle.cases.specs.Maps.{place, link, Barn}
 use Rattle.cases.specs.Past.{Past, empty, booked, cancelled}
 use Rattle.cases.specs.Case.Reason.{no_plan}
@@ -150,7 +150,11 @@ rings = (wide, wide_cases) ∷ (detour, detour_cases) ∷ (narrow, narrow_cases)
 abbrev ring_b : Barn × List Case → Bool
 ring_b x = table_b x.0 x.1
 
--- all of them hold
+rings_test : all_b ring_b rings ≡ true
+unfolding table_b
+rings_test = refl
+
+-- all of them hold: the test is run here itself, so that a table that fails it is refused here too
 pub rings_hold : (x : Barn × List Case) → Memᴰ x rings → (c : Case) → Memᴰ c x.1 → Means x.0 c
 unfolding table_b
 rings_hold x m = table_means x.0 x.1 (all_out ring_b rings refl x m)

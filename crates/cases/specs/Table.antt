@@ -70,7 +70,11 @@ table =
     ∷ pages (cancelled both 1) 2 (key 0 0 2) (row 2 10 2 40 3 ∷ row 3 40 2 50 3 ∷ []) false
     ∷ []
 
--- the table holds, as a whole
+table_test : table_b barn table ≡ true
+unfolding table_b
+table_test = refl
+
+-- the table holds, as a whole: it runs the test itself, so that a table that fails it is refused here too
 pub table_holds : (c : Case) → Memᴰ c table → Means barn c
 unfolding table_b
 table_holds = table_means barn table refl
