@@ -78,10 +78,9 @@ fn sit(
 }
 
 // A proved loop has to end, and nothing says that the input does: the turns are counted up to a number that no run uses up.
-fn run(rt: &(impl Input + Print + Eprint), buf: &mut [u8], out: &mut [u8])
+fn run(rt: &(impl Print + Eprint), input: &mut impl Read, buf: &mut [u8], out: &mut [u8])
     requires { answer_room ≤ length out.old }
 {
-    let mut input = rt.reader();
     let d = frames::first_desk();
     let mut t = Turn { desk: d, on: true };
     for _ in 0..u64::MAX {
@@ -89,12 +88,13 @@ fn run(rt: &(impl Input + Print + Eprint), buf: &mut [u8], out: &mut [u8])
             return;
         }
         let e = t.desk;
-        t = sit(rt, &mut input, e, buf, out);
+        t = sit(rt, input, e, buf, out);
     }
 }
 
 fn main(rt: HostRuntime) {
     let mut buf = [0u8; 65536];
     let mut out = [0u8; 65536];
-    run(&rt, &mut buf, &mut out);
+    let mut input = rt.stdin();
+    run(&rt, &mut input, &mut buf, &mut out);
 }
