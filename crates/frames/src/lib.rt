@@ -4,8 +4,8 @@
 ghost use Rattle.std.specs.Prelude.{◌≡◌, true, ℕ, ◌+◌, ◌*◌, ◌%◌, ◌<◌, ◌≤◌, List, [], ◌∷◌, ◌++◌, length, take, drop};
 ghost use Rattle.rules.specs.Rows.{bit};
 ghost use Rattle.rules.specs.Bytes.{bytes2, bytes3, row_size, row_line_size, answer_room};
-ghost use Rattle.rules.specs.Answer.{number, planned_number, planned_arrival, planned_count, paged_number, paged_count, paged_rows, paged_more};
-ghost use Rattle.rules.specs.Answer.{booked_number, booked_ticket, booked_arrival, booked_count, cancelled_number, cancelled_count};
+ghost use Rattle.rules.specs.Answer.{number, answer_number, planned_arrival, planned_count, paged_count, paged_rows, paged_more};
+ghost use Rattle.rules.specs.Answer.{answer_number, booked_ticket, booked_arrival, booked_count, cancelled_count};
 ghost use Rattle.rules.specs.Frames.{digit, hex_of, line_of, row_lines, after00, closed_state, Said, PlaceFrame, LinkFrame, PlanFrame, BookFrame, CancelFrame, PageFrame, begins};
 ghost use Rattle.rules.specs.Program.{AnswerIs, EndedIs, FedIs, LineIs, Spoken, empty_line, pushed};
 ghost use Rattle.unique.specs.Hex.{Value};
@@ -307,7 +307,7 @@ fn low_of(x: usize) -> u8
 }
 
 fn plan_head(p: Planned) -> Head
-    ensures { HeadIs (after00 (planned_number p) (bytes3 (planned_arrival p) ++ bytes2 (planned_count p))) result }
+    ensures { HeadIs (after00 (answer_number p) (bytes3 (planned_arrival p) ++ bytes2 (planned_count p))) result }
 {
     match p {
         Planned::Done(t) => {
@@ -327,7 +327,7 @@ fn plan_head(p: Planned) -> Head
 }
 
 fn book_head(b: Booked) -> Head
-    ensures { HeadIs (after00 (booked_number b) (bytes3 (booked_ticket b) ++ (bytes3 (booked_arrival b) ++ bytes2 (booked_count b)))) result }
+    ensures { HeadIs (after00 (answer_number b) (bytes3 (booked_ticket b) ++ (bytes3 (booked_arrival b) ++ bytes2 (booked_count b)))) result }
 {
     match b {
         Booked::Done(t) => {
@@ -350,7 +350,7 @@ fn book_head(b: Booked) -> Head
 }
 
 fn cancel_head(a: Cancelled) -> Head
-    ensures { HeadIs (after00 (cancelled_number a) (bytes2 (cancelled_count a))) result }
+    ensures { HeadIs (after00 (answer_number a) (bytes2 (cancelled_count a))) result }
 {
     match a {
         Cancelled::Done(c) => {
@@ -377,7 +377,7 @@ fn bit_of(b: bool) -> u8
 
 fn page_head(p: Paged) -> Head
     requires { paged_rows p < 256 }
-    ensures { HeadIs (after00 (paged_number p) (paged_count p ∷ (bit (paged_more p) ∷ []))) result }
+    ensures { HeadIs (after00 (answer_number p) (paged_count p ∷ (bit (paged_more p) ∷ []))) result }
 {
     match p {
         Paged::Done(s) => {

@@ -1,13 +1,12 @@
 -- What a page shows, from the index of the first row above the cursor: the rows from it on are all the rows above the cursor, so their
 -- number is known, and the page is a run of the arrays' rows whose last row's key is the next cursor.
-use Rattle.std.specs.Prelude.{ℕ, zero, suc, ◌+◌, ◌-◌, ◌≤◌, ◌<◌, ◌≡◌, refl, List, [], ◌∷◌, length, take, drop, ltb}
+use Rattle.std.specs.Prelude.{ℕ, zero, suc, ◌+◌, ◌-◌, ◌≤◌, ◌<◌, ◌≡◌, refl, List, [], ◌∷◌, length, take, drop, ltb, Ok}
 use Rattle.std.proofs.Common.{zero-le, sym, ap, ◌∙◌, ⊎_elim, arith, length-drop, take_all}
 use Rattle.std.proofs.Math.Seq.{drop-nil}
 use Rattle.laws.specs.Order.{lt_or_ge}
 use Rattle.laws.specs.Lists.{at, tabulate, length_tabulate}
 use Rattle.rules.specs.declared.Row.{Row}
 use Rattle.rules.specs.declared.Shown.{Shown}
-use Rattle.rules.specs.declared.Paged.TheVariants.{Done}
 use Rattle.rules.specs.Rows.{Key, row_key, cursor_key}
 use Rattle.rules.specs.Page.{after, page_rows, last_key}
 use Rattle.rules.specs.Bytes.{written}
@@ -88,7 +87,7 @@ module _ (K X : List ℕ) (count : ℕ) (k : Key) {first : ℕ} (F : FirstAfter 
   pub page_done : (size : ℕ) (was out : List ℕ) (s : Shown) → Lesser size (count - first) s.count → s.more ≡ ltb size (count - first)
       → cursor_key s.cursor ≡ last_key k (rows_for K X first s.count)
       → out ≡ written (rows_for K X first s.count) was
-      → PageDone (rows_in K X count) size k was out (Done s)
+      → PageDone (rows_in K X count) size k was out (Ok s)
   page_done size was out s f m c o =
       let e = page_run size s.count f in
       record {

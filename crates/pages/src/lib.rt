@@ -2,7 +2,7 @@
 #![tactic(auto)]
 
 ghost use Rattle.std.specs.Prelude.{◌≡◌, ◌+◌, ◌≤◌, ◌<◌};
-ghost use Rattle.rules.specs.declared.Paged.{Paged};
+ghost use Rattle.rules.specs.Answer.{Paged};
 ghost use Rattle.rules.specs.Limits.{row_limit, page_limit};
 ghost use Rattle.rules.specs.Rows.{cursor_key};
 ghost use Rattle.rules.specs.Page.{last_key};

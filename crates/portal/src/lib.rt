@@ -5,7 +5,7 @@ ghost use Rattle.std.specs.Prelude.{◌≡◌, ℕ, ◌≤◌, length};
 ghost use Rattle.laws.specs.Lists.{at};
 ghost use Rattle.rules.specs.Limits.{row_limit};
 ghost use Rattle.rules.specs.Rows.{bit};
-ghost use Rattle.rules.specs.Answer.{planned_number, planned_arrival, planned_count, paged_number, paged_count, paged_more};
+ghost use Rattle.rules.specs.Answer.{answer_number, planned_arrival, planned_count, paged_count, paged_more};
 ghost use Rattle.rules.specs.Portal.{one_number, PortalPlan, PortalPage};
 ghost use Rattle.portal.specs.Read.{MapRead, BookRead};
 
@@ -80,7 +80,7 @@ fn read_book(s: &[u8], key: &mut [u64; 1024], tail: &mut [u32; 1024]) -> BookHea
 // A plan's answer as one number.
 fn packed_plan(p: Planned) -> u64
     requires { planned_count p ≤ 1844674407370955161 }
-    ensures { result ≡ one_number (planned_number p) (planned_arrival p) (planned_count p) }
+    ensures { result ≡ one_number (answer_number p) (planned_arrival p) (planned_count p) }
 {
     match p {
         Planned::Done(t) => (t.arrival as u64) * 2048 + (t.count as u64),
@@ -91,7 +91,7 @@ fn packed_plan(p: Planned) -> u64
 // A page's answer as one number.
 fn packed_page(p: Paged) -> u64
     requires { paged_count p ≤ row_limit }
-    ensures { result ≡ one_number (paged_number p) (bit (paged_more p)) (paged_count p) }
+    ensures { result ≡ one_number (answer_number p) (bit (paged_more p)) (paged_count p) }
 {
     match p {
         Paged::Done(s) => {

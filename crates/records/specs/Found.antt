@@ -9,8 +9,8 @@ use Rattle.laws.specs.Lists.{index_mem}
 use Rattle.rules.specs.declared.Row.{Row}
 use Rattle.rules.specs.declared.Map.{Map}
 use Rattle.rules.specs.declared.Book.{Book}
-use Rattle.rules.specs.declared.Planned.{Planned}
-use Rattle.rules.specs.declared.Paged.{Paged}
+use Rattle.rules.specs.Answer.{Planned}
+use Rattle.rules.specs.Answer.{Paged}
 use Rattle.rules.specs.Limits.{plan_limit, page_limit}
 use Rattle.rules.specs.Map.{GoodMap, map_yard}
 use Rattle.rules.specs.Rows.{Key, row_key, first_key, no_row, row_at, lessb}

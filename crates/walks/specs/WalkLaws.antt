@@ -12,7 +12,7 @@ use Rattle.rules.specs.declared.Map.{Map}
 use Rattle.rules.specs.declared.Book.{Book}
 use Rattle.rules.specs.declared.Booking.{Booking}
 use Rattle.rules.specs.declared.Cancelling.{Cancelling}
-use Rattle.rules.specs.declared.Paged.{Paged}
+use Rattle.rules.specs.Answer.{Paged}
 use Rattle.rules.specs.Map.{GoodMap, map_yard}
 use Rattle.rules.specs.Rows.{Key, row_key, first_key, no_row, row_at, Less, lessb, Rising, keep, insert_all}
 use Rattle.rules.specs.Rows.Less.{by_place, by_entry, by_ticket}
