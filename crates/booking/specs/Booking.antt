@@ -4,7 +4,6 @@ use Rattle.std.proofs.Common.{sym, subst, inl, inr, arith}
 use Rattle.rules.specs.declared.Row.{Row}
 use Rattle.rules.specs.declared.Map.{Map}
 use Rattle.rules.specs.declared.Book.{Book}
-use Rattle.rules.specs.declared.Booking.{Booking}
 use Rattle.rules.specs.declared.Refusal.{Refusal}
 use Rattle.rules.specs.declared.Refusal.TheVariants.{OffMap, OffDay, NoPlan, FullBook, NoTickets}
 use Rattle.rules.specs.Map.{Yard, GoodMap, map_yard}
@@ -13,7 +12,7 @@ use Rattle.rules.specs.Plan.{Stay, Permitted, arrival, run_rows}
 use Rattle.rules.specs.Book.{GoodBook, rows_of, book_of}
 use Rattle.rules.specs.Chosen.{Chosen}
 use Rattle.rules.specs.Gate.Checked.{sound}
-use Rattle.rules.specs.Answer.{number, fault_row, BookIs, BookingIs, BookSound}
+use Rattle.rules.specs.Answer.{Booking, number, fault_row, BookIs, BookingIs, BookSound}
 
 -- ---- the answers
 

@@ -13,9 +13,6 @@ use Rattle.rules.specs.declared.Row.{Row}
 use Rattle.rules.specs.declared.Cursor.{Cursor}
 use Rattle.rules.specs.declared.Refusal.{Refusal}
 use Rattle.rules.specs.declared.Refusal.TheVariants.{OffMap, OffDay, NoPlan}
-use Rattle.rules.specs.Answer.{Planned}
-use Rattle.rules.specs.declared.Booking.{Booking}
-use Rattle.rules.specs.Answer.{Paged}
 use Rattle.rules.specs.Limits.{day, row_limit, ticket_limit, page_limit}
 use Rattle.rules.specs.Map.{linked, Yard, map_yard}
 use Rattle.rules.specs.Rows.{Key, no_row, lessb, covers, load, keep, insert_all}
@@ -26,7 +23,7 @@ use Rattle.rules.specs.Book.{WellFormed, GoodBook, rows_of, book_of, of_ticket, 
 use Rattle.rules.specs.Bytes.{records, written}
 use Rattle.rules.specs.Gate.{papers_of, Checked}
 use Rattle.rules.specs.Gate.Checked.{sound}
-use Rattle.rules.specs.Answer.{PlanSound, PlanIs, BookSound, BookIs, CancelIs, Known, PageSound, PageIs, CursorFits}
+use Rattle.rules.specs.Answer.{Planned, Booking, Paged, PlanSound, PlanIs, BookSound, BookIs, CancelIs, Known, PageSound, PageIs, CursorFits}
 use Rattle.keeping.specs.Books.{rows_of_book, good_book}
 use Rattle.keeping.specs.Changes.{mem_keep}
 use Rattle.cases.specs.Checks.{every, holds, all_b, all_out, under, lex_b, same_plan, same_rows, same_rows_lem, answers_agree, same_answer}

@@ -4,15 +4,13 @@ use Rattle.std.specs.Prelude.{ℕ, ◌+◌, ◌≤◌, ◌<◌, ◌≡◌, false
 use Rattle.std.proofs.Common.{ap₂, arith, length-take}
 use Rattle.std.proofs.Math.Nat.{min-le_left}
 use Rattle.rules.specs.declared.Row.{Row}
-use Rattle.rules.specs.Answer.{Planned}
-use Rattle.rules.specs.Answer.{Paged}
 use Rattle.rules.specs.Limits.{row_limit, page_limit}
 use Rattle.rules.specs.Rows.{Key, first_key}
 use Rattle.rules.specs.Page.{after, page_rows}
 use Rattle.rules.specs.Bytes.{records}
 use Rattle.rules.specs.Gate.{Papers}
 use Rattle.rules.specs.GateLaws.{unless, checked}
-use Rattle.rules.specs.Answer.{rows_done, answer_number, planned_count, planned_rows, Planning, PlanRefused, PlanSays, paged_count, paged_rows, PagingIs, PageRefused, PageSays}
+use Rattle.rules.specs.Answer.{Planned, Paged, rows_done, answer_number, planned_count, planned_rows, Planning, PlanRefused, PlanSays, paged_count, paged_rows, PagingIs, PageRefused, PageSays}
 use Rattle.rules.specs.AnswerLaws.{none_done}
 
 module _ {A : Type 0} {was out : List A} where

@@ -4,14 +4,10 @@ use Rattle.std.proofs.Math.Path.{refl}
 use Rattle.std.proofs.Math.Bool.{false}
 use Rattle.std.proofs.Common.{inl, inr, append-nil, arith, length-append}
 use Rattle.rules.specs.declared.State.{State}
-use Rattle.rules.specs.Answer.{Planned}
-use Rattle.rules.specs.declared.Booking.{Booking}
-use Rattle.rules.specs.declared.Cancelling.{Cancelling}
-use Rattle.rules.specs.Answer.{Paged}
 use Rattle.rules.specs.Limits.{place_limit, link_limit, plan_limit}
 use Rattle.rules.specs.Rows.{bit}
 use Rattle.rules.specs.Bytes.{byte_at, num2, num3, bytes2, bytes3, place_in, link_in, row_size, list_size, answer_room}
-use Rattle.rules.specs.Answer.{PlanIs, BookIs, CancelIs, PageIs, answer_number, planned_arrival, planned_count, planned_rows, paged_count, paged_rows, paged_more}
+use Rattle.rules.specs.Answer.{Planned, Booking, Cancelling, Paged, PlanIs, BookIs, CancelIs, PageIs, answer_number, planned_arrival, planned_count, planned_rows, paged_count, paged_rows, paged_more}
 use Rattle.rules.specs.Answer.{answer_number, booked_ticket, booked_arrival, booked_count, cancelled_count}
 use Rattle.rules.specs.Frames.{hex_of, line_of, row_lines, after00, answer_list, book_lines, cancel_lines, closed_state, with_place, with_link, Said}
 use Rattle.rules.specs.Frames.{PlaceFrame, LinkFrame, PlanFrame, BookFrame, CancelFrame, PageFrame}

@@ -4,12 +4,10 @@ use Rattle.std.specs.Prelude.{ℕ, ◌+◌, ◌*◌, ◌≡◌, refl, Bool, true
 use Rattle.std.proofs.Common.{sym, ap₂, subst, ⊎_elim, arith}
 use Rattle.laws.specs.Tests.{Decides, true_or_false}
 use Rattle.laws.specs.Lists.{at}
-use Rattle.rules.specs.Answer.{Planned}
-use Rattle.rules.specs.Answer.{Paged}
 use Rattle.rules.specs.Map.{Yard, yard_of, MapRules}
 use Rattle.rules.specs.Rows.{Key, bit}
 use Rattle.rules.specs.Book.{Counted}
-use Rattle.rules.specs.Answer.{PlanSays, PageSays, answer_number, planned_arrival, planned_count, paged_count, paged_more}
+use Rattle.rules.specs.Answer.{Planned, Paged, PlanSays, PageSays, answer_number, planned_arrival, planned_count, paged_count, paged_more}
 use Rattle.rules.specs.Bytes.{num2, place_size}
 use Rattle.rules.specs.Gate.{Papers}
 use Rattle.rules.specs.GateLaws.{SamePapers}

@@ -9,8 +9,6 @@ use Rattle.laws.specs.Lists.{index_mem}
 use Rattle.rules.specs.declared.Row.{Row}
 use Rattle.rules.specs.declared.Map.{Map}
 use Rattle.rules.specs.declared.Book.{Book}
-use Rattle.rules.specs.Answer.{Planned}
-use Rattle.rules.specs.Answer.{Paged}
 use Rattle.rules.specs.Limits.{plan_limit, page_limit}
 use Rattle.rules.specs.Map.{GoodMap, map_yard}
 use Rattle.rules.specs.Rows.{Key, row_key, first_key, no_row, row_at, lessb}
@@ -22,7 +20,7 @@ use Rattle.rules.specs.Bytes.{row_size, records, list_size}
 use Rattle.rules.specs.ByteLaws.{RowFits}
 use Rattle.rules.specs.Gate.{Unless, papers_of}
 use Rattle.rules.specs.GateLaws.{instead, checked_as, same_papers}
-use Rattle.rules.specs.Answer.{rows_done, Planning, PlanIs, PlanRecords, PlanRefused, PlanDone, planned_rows, PagingIs, PageIs, PageRecords, PageRefused, PageDone, paged_rows, over}
+use Rattle.rules.specs.Answer.{Planned, Paged, rows_done, Planning, PlanIs, PlanRecords, PlanRefused, PlanDone, planned_rows, PagingIs, PageIs, PageRecords, PageRefused, PageDone, paged_rows, over}
 use Rattle.lanes.specs.Yards.{YardRules, yard_rules}
 use Rattle.lanes.specs.Windows.{ends}
 use Rattle.lanes.specs.Chosen.{chosen_best}

@@ -6,8 +6,6 @@ use Rattle.std.proofs.Common.{sym, ap, ap₂, subst, ◌∙◌, ⊎_elim, append
 use Rattle.std.proofs.lemmas.List.{drop-append-le}
 use Rattle.laws.specs.Lists.{index_mem}
 use Rattle.rules.specs.declared.Row.{Row}
-use Rattle.rules.specs.Answer.{Planned}
-use Rattle.rules.specs.Answer.{Paged}
 use Rattle.rules.specs.declared.Map.{Map}
 use Rattle.rules.specs.declared.Book.{Book}
 use Rattle.rules.specs.Map.{map_yard}
@@ -16,7 +14,7 @@ use Rattle.rules.specs.Plan.{Stay, arrival, run_rows}
 use Rattle.rules.specs.Book.{GoodBook, book_of}
 use Rattle.rules.specs.Gate.{Unless}
 use Rattle.rules.specs.GateLaws.{past, passed}
-use Rattle.rules.specs.Answer.{Planning, PlanRefused, PlanAnswers, PlanRecords, answer_number, planned_arrival, planned_rows}
+use Rattle.rules.specs.Answer.{Planned, Paged, Planning, PlanRefused, PlanAnswers, PlanRecords, answer_number, planned_arrival, planned_rows}
 use Rattle.rules.specs.Answer.{rows_done, PagingIs, PageRefused, PageRecords, answer_number, paged_rows, paged_more, over}
 use Rattle.keeping.specs.Books.{rows_of_book, good_book}
 use Rattle.cases.specs.Maps.{yard, arrays, barn_good}

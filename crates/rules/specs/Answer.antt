@@ -9,8 +9,7 @@ use Rattle.rules.specs.declared.Refusal.TheVariants.{BadMap, BadBook, OffMap, Of
 use Rattle.rules.specs.declared.Trip.{Trip}
 use Rattle.rules.specs.declared.Issued.{Issued}
 use Rattle.rules.specs.declared.Shown.{Shown}
-use Rattle.rules.specs.declared.Booking.{Booking}
-use Rattle.rules.specs.declared.Cancelling.{Cancelling}
+use Rattle.rules.specs.declared.Change.{Change}
 use Rattle.rules.specs.Limits.{day, row_limit, ticket_limit, page_limit}
 use Rattle.rules.specs.Rows.{Key, cursor_key, first_key, keep, insert_all}
 use Rattle.rules.specs.Page.{page_rows, page_more, last_key}
@@ -135,6 +134,9 @@ PlanIs m b start dest s was out r = PlanSays (papers_of m b) start dest s was ou
 abbrev pub Booked : Type 0
 Booked = Result Issued Refusal
 
+abbrev pub Booking : Type 0
+Booking = Change Issued
+
 abbrev pub booked_ticket : Booked → ℕ
 booked_ticket (Ok i) = i.ticket
 booked_ticket (Err r) = 0
@@ -185,6 +187,9 @@ BookIs m b start dest s r = Checked (papers_of m b) (λ n i. BookingIs n 0 0 i b
 
 abbrev pub Cancelled : Type 0
 Cancelled = Result ℕ Refusal
+
+abbrev pub Cancelling : Type 0
+Cancelling = Change ℕ
 
 abbrev pub cancelled_count : Cancelled → ℕ
 cancelled_count r = answer_count (λ c. c) r

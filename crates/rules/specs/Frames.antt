@@ -5,17 +5,13 @@ use Rattle.rules.specs.declared.Link.{Link}
 use Rattle.rules.specs.declared.Map.{Map}
 use Rattle.rules.specs.declared.Book.{Book}
 use Rattle.rules.specs.declared.State.{State}
-use Rattle.rules.specs.Answer.{Planned}
-use Rattle.rules.specs.Answer.{Paged}
-use Rattle.rules.specs.declared.Booking.{Booking}
-use Rattle.rules.specs.declared.Cancelling.{Cancelling}
 use Rattle.rules.specs.Limits.{place_limit, link_limit}
 use Rattle.rules.specs.Map.{zero_place, no_link}
 use Rattle.rules.specs.Rows.{bit}
 use Rattle.rules.specs.Book.{book_of}
 use Rattle.rules.specs.Bytes.{byte_at, num3, bytes2, bytes3, place_size, place_in, link_size, link_in, row_size, list_size, key_in}
 use Rattle.rules.specs.Gate.{Unless}
-use Rattle.rules.specs.Answer.{PlanIs, BookIs, CancelIs, PageIs, answer_number, planned_arrival, planned_count, planned_rows, booked_ticket, booked_arrival, booked_count, cancelled_count, paged_count, paged_rows, paged_more}
+use Rattle.rules.specs.Answer.{Planned, Paged, Booking, Cancelling, PlanIs, BookIs, CancelIs, PageIs, answer_number, planned_arrival, planned_count, planned_rows, booked_ticket, booked_arrival, booked_count, cancelled_count, paged_count, paged_rows, paged_more}
 
 -- "uppercase hexadecimal, two digits a byte"
 abbrev pub digit_by : Bool → ℕ → ℕ

@@ -3,14 +3,12 @@ use Rattle.std.specs.Prelude.{ℕ, ◌+◌, ◌*◌, ◌≤◌, ◌≡◌, List,
 use Rattle.rules.specs.declared.Place.{Place}
 use Rattle.rules.specs.declared.Link.{Link}
 use Rattle.rules.specs.declared.Row.{Row}
-use Rattle.rules.specs.Answer.{Planned}
-use Rattle.rules.specs.Answer.{Paged}
 use Rattle.rules.specs.Map.{Yard, yard_of, MapRules}
 use Rattle.rules.specs.Rows.{Key, bit}
 use Rattle.rules.specs.Book.{Formed, Counted}
 use Rattle.rules.specs.Bytes.{num2, num3, place_size, places_from, link_size, links_from, row_size, rows_from}
 use Rattle.rules.specs.Gate.{Papers}
-use Rattle.rules.specs.Answer.{PlanSays, PageSays, answer_number, planned_arrival, planned_count, paged_count, paged_more}
+use Rattle.rules.specs.Answer.{Planned, Paged, PlanSays, PageSays, answer_number, planned_arrival, planned_count, paged_count, paged_more}
 
 -- "A map slice is place count(2), link count(2), then places and links as in frames 01 and 02 without their first byte"
 abbrev pub slice_places : List ℕ → List Place

@@ -5,14 +5,10 @@ use mathlib.Core.List.{List, [], ◌∷◌, ◌++◌, Memᴰ}
 use Rattle.rules.specs.declared.Row.{Row}
 use Rattle.rules.specs.declared.Map.{Map}
 use Rattle.rules.specs.declared.Book.{Book}
-use Rattle.rules.specs.Answer.{Planned}
-use Rattle.rules.specs.declared.Booking.{Booking}
-use Rattle.rules.specs.declared.Cancelling.{Cancelling}
-use Rattle.rules.specs.Answer.{Paged}
 use Rattle.rules.specs.Rows.{Key, row_key, first_key, row_at, Rising}
 use Rattle.rules.specs.Book.{rows_of}
 use Rattle.rules.specs.Bytes.{rows_from}
-use Rattle.rules.specs.Answer.{PlanIs, BookIs, CancelIs, PageIs, booked_rows, answer_number, paged_count, paged_more, paged_cursor}
+use Rattle.rules.specs.Answer.{Planned, Booking, Cancelling, Paged, PlanIs, BookIs, CancelIs, PageIs, booked_rows, answer_number, paged_count, paged_more, paged_cursor}
 
 -- ---- the events, all over one map
 

@@ -266,16 +266,11 @@ pub struct Issued {
     pub count: usize,
 }
 
+// The book after a call that changes it, and what the call answers.
 #[derive(Clone, Copy)]
-pub struct Booking {
+pub struct Change<T> {
     pub book: Book,
-    pub answer: Result<Issued, Refusal>,
-}
-
-#[derive(Clone, Copy)]
-pub struct Cancelling {
-    pub book: Book,
-    pub answer: Result<usize, Refusal>,
+    pub answer: Result<T, Refusal>,
 }
 
 #[derive(Clone, Copy)]

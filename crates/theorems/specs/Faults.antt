@@ -5,10 +5,6 @@ use Rattle.std.proofs.Common.{sym, subst, ◌∙◌, inl, inr, ⊎_elim, arith}
 use Rattle.rules.specs.declared.Row.{Row}
 use Rattle.rules.specs.declared.Map.{Map}
 use Rattle.rules.specs.declared.Book.{Book}
-use Rattle.rules.specs.Answer.{Planned}
-use Rattle.rules.specs.Answer.{Paged}
-use Rattle.rules.specs.declared.Booking.{Booking}
-use Rattle.rules.specs.declared.Cancelling.{Cancelling}
 use Rattle.rules.specs.Map.{Yard}
 use Rattle.rules.specs.Rows.{Key}
 use Rattle.rules.specs.Fault.{Fault}
@@ -16,7 +12,7 @@ use Rattle.rules.specs.Fault.Fault.{miscounted, unrising, broken, overfull, barr
 use Rattle.rules.specs.Gate.{Papers, papers_of, BookGood, Checked}
 use Rattle.rules.specs.Gate.Checked.{bad_map as map-refused, bad_book as book_refused, sound}
 use Rattle.rules.specs.GateLaws.{unless, fault_unique, fault_breaks, at_gate}
-use Rattle.rules.specs.Answer.{PlanSays, answer_number, planned_count, BookIs, booked_count, CancelIs, cancelled_count, PageSays, paged_count}
+use Rattle.rules.specs.Answer.{Planned, Paged, Booking, Cancelling, PlanSays, answer_number, planned_count, BookIs, booked_count, CancelIs, cancelled_count, PageSays, paged_count}
 
 -- done, or refused by one of the calls' own numbers
 abbrev pub Own : ℕ → Type 0

@@ -6,16 +6,12 @@ use Rattle.laws.specs.Tests.{not_both}
 use Rattle.rules.specs.declared.Map.{Map}
 use Rattle.rules.specs.declared.Book.{Book}
 use Rattle.rules.specs.declared.State.{State}
-use Rattle.rules.specs.Answer.{Planned}
-use Rattle.rules.specs.Answer.{Paged}
-use Rattle.rules.specs.declared.Booking.{Booking}
-use Rattle.rules.specs.declared.Cancelling.{Cancelling}
 use Rattle.rules.specs.Map.{map_yard}
 use Rattle.rules.specs.Rows.{Key}
 use Rattle.rules.specs.Book.{GoodBook, book_of}
 use Rattle.rules.specs.Bytes.{byte_at}
 use Rattle.rules.specs.GateLaws.{unless, checked_good}
-use Rattle.rules.specs.Answer.{PlanIs, BookIs, CancelIs, PageIs, answer_number}
+use Rattle.rules.specs.Answer.{Planned, Paged, Booking, Cancelling, PlanIs, BookIs, CancelIs, PageIs, answer_number}
 use Rattle.rules.specs.Frames.{digit, hex_of, line_of, after00, begins, closed_state, Frame, Said, PlaceFrame, LinkFrame, PlanFrame, BookFrame, CancelFrame, PageFrame, FrameSays, LineSays, LinesSay}
 use Rattle.rules.specs.Frames.LinesSay.{none, more}
 use Rattle.keeping.specs.Calls.{empty_good, booking_good, cancelling_good}

@@ -9,10 +9,6 @@ use Rattle.rules.specs.declared.Map.{Map}
 use Rattle.rules.specs.declared.Book.{Book}
 use Rattle.rules.specs.declared.Row.{Row}
 use Rattle.rules.specs.declared.State.{State}
-use Rattle.rules.specs.Answer.{Planned}
-use Rattle.rules.specs.Answer.{Paged}
-use Rattle.rules.specs.declared.Booking.{Booking}
-use Rattle.rules.specs.declared.Cancelling.{Cancelling}
 use Rattle.rules.specs.Limits.{day}
 use Rattle.rules.specs.Map.{Yard, GoodMap, map_yard}
 use Rattle.rules.specs.Rows.{Key, first_key, Rising, load, Barred, Ring, keep, insert_all}
@@ -25,7 +21,7 @@ use Rattle.rules.specs.Bytes.{records, written}
 use Rattle.rules.specs.Fault.{FirstBad, Fault}
 use Rattle.rules.specs.Gate.{Papers, papers_of}
 use Rattle.rules.specs.GateLaws.{unless, past, checked, passed}
-use Rattle.rules.specs.Answer.{over, PlanSays, PlanIs, PlanRecords, Planning, answer_number, planned_arrival, planned_count, BookIs, BookingIs, booked_ticket, booked_arrival, booked_count, CancelIs, CancellingIs, Known, cancelled_count, PageSays, PageIs, PageRecords, PagingIs, paged_count}
+use Rattle.rules.specs.Answer.{Planned, Paged, Booking, Cancelling, over, PlanSays, PlanIs, PlanRecords, Planning, answer_number, planned_arrival, planned_count, BookIs, BookingIs, booked_ticket, booked_arrival, booked_count, CancelIs, CancellingIs, Known, cancelled_count, PageSays, PageIs, PageRecords, PagingIs, paged_count}
 use Rattle.lanes.specs.Yards.{yard_rules}
 use Rattle.lanes.specs.Beginning.{beginning, beginning_permitted, beginning_entry, Lies, stay_lies}
 use Rattle.lanes.specs.Chosen.{chosen_best}

@@ -5,10 +5,6 @@ use Rattle.std.proofs.Common.{sym, ap, subst, ◌∙◌}
 use Rattle.rules.specs.declared.Row.{Row}
 use Rattle.rules.specs.declared.Map.{Map}
 use Rattle.rules.specs.declared.Book.{Book}
-use Rattle.rules.specs.Answer.{Planned}
-use Rattle.rules.specs.declared.Booking.{Booking}
-use Rattle.rules.specs.declared.Cancelling.{Cancelling}
-use Rattle.rules.specs.Answer.{Paged}
 use Rattle.rules.specs.Limits.{row_limit}
 use Rattle.rules.specs.Map.{GoodMap, map_yard}
 use Rattle.rules.specs.Rows.{Key, first_key, bit}
@@ -18,7 +14,7 @@ use Rattle.rules.specs.Chosen.{Chosen}
 use Rattle.rules.specs.Bytes.{records, written}
 use Rattle.rules.specs.Gate.{Unless, Papers, Checked}
 use Rattle.rules.specs.GateLaws.{both, checked_both}
-use Rattle.rules.specs.Answer.{Planning, PlanRefused, PlanAnswers, BookingIs, BookRefused, BookDone, BookIs, CancellingIs, CancelIs, PagingIs, PageAnswers, answer_number, planned_arrival, planned_count, paged_count, paged_more}
+use Rattle.rules.specs.Answer.{Planned, Booking, Cancelling, Paged, Planning, PlanRefused, PlanAnswers, BookingIs, BookRefused, BookDone, BookIs, CancellingIs, CancelIs, PagingIs, PageAnswers, answer_number, planned_arrival, planned_count, paged_count, paged_more}
 use Rattle.rules.specs.Portal.{slice_papers, one_number, PortalPlan, PortalPage}
 use Rattle.lanes.specs.Yards.{yard_rules}
 use Rattle.lanes.specs.Chosen.{no_second}

@@ -3,12 +3,8 @@
 use Rattle.std.specs.Prelude.{◌≡◌, Ok, Err}
 use Rattle.std.proofs.Common.{ap, arith}
 use Rattle.rules.specs.declared.Cursor.{Cursor}
-use Rattle.rules.specs.Answer.{Planned}
-use Rattle.rules.specs.Answer.{Booked}
-use Rattle.rules.specs.Answer.{Cancelled}
-use Rattle.rules.specs.Answer.{Paged}
 use Rattle.rules.specs.Rows.{cursor_key}
-use Rattle.rules.specs.Answer.{answer_number, planned_arrival, planned_count, booked_ticket, booked_arrival, booked_count, cancelled_count, paged_count, paged_more, paged_cursor}
+use Rattle.rules.specs.Answer.{Planned, Booked, Cancelled, Paged, answer_number, planned_arrival, planned_count, booked_ticket, booked_arrival, booked_count, cancelled_count, paged_count, paged_more, paged_cursor}
 use Rattle.rules.specs.AnswerLaws.{refusal_same, number_positive}
 
 pub planned_same : (r r' : Planned) → answer_number r ≡ answer_number r' → planned_arrival r ≡ planned_arrival r' → planned_count r ≡ planned_count r' → r ≡ r'
