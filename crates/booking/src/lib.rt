@@ -154,7 +154,13 @@ fn book_sound(
 }
 
 // The plan that planning gives, booked in place: a refusal leaves the book as it was.
-fn book_in(m: Map, b: &mut Book, start: u32, destination: u32, second: u32) -> Result<Issued, Refusal>
+fn book_in(
+    m: Map,
+    b: &mut Book,
+    start: u32,
+    destination: u32,
+    second: u32,
+) -> Result<Issued, Refusal>
     ensures { BookIs m b.old start destination second (record { book = b.new; answer = result }) }
 {
     let mut cap = [0u8; 256];

@@ -89,8 +89,22 @@ pub fn plan_flat(
     let mut end = [0u32; 1280];
     let mut first = [0u16; 257];
     let w = vet::vet(
-        n, k, cap, dur, from, to, &mut head, &mut chain, count, next_ticket, key, tail, &mut start,
-        &mut end, &mut place, &mut first,
+        n,
+        k,
+        cap,
+        dur,
+        from,
+        to,
+        &mut head,
+        &mut chain,
+        count,
+        next_ticket,
+        key,
+        tail,
+        &mut start,
+        &mut end,
+        &mut place,
+        &mut first,
     )?;
     plan_sound(
         n, k, w, cap, dur, from, to, &head, &chain, &place, &start, &end, &first, key, tail, count,

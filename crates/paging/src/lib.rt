@@ -63,8 +63,22 @@ pub fn page_flat(
     let mut end = [0u32; 1280];
     let mut first = [0u16; 257];
     vet::vet(
-        n, k, cap, dur, from, to, &mut head, &mut chain, count, next_ticket, key, tail, &mut start,
-        &mut end, &mut place, &mut first,
+        n,
+        k,
+        cap,
+        dur,
+        from,
+        to,
+        &mut head,
+        &mut chain,
+        count,
+        next_ticket,
+        key,
+        tail,
+        &mut start,
+        &mut end,
+        &mut place,
+        &mut first,
     )?;
     page_sound(n, count, key, tail, size, c, out)
 }

@@ -222,16 +222,16 @@ pub fn number_of<T: Copy>(answer: Result<T, Refusal>) -> u8
     }
 }
 
-// What is written to the caller's list, counted in rows.
-pub trait Listed: Copy {
+// What a call did, counted in rows.
+pub trait InRows: Copy {
     ghost rows: { Self → ℕ };
 
     fn rows(self) -> usize
         ensures { result ≡ rows self };
 }
 
-// How many rows an answer wrote to the caller's list, 0 at a refusal.
-pub fn rows_of<T: Listed>(answer: Result<T, Refusal>) -> usize
+// How many rows an answer counts, 0 at a refusal.
+pub fn rows_of<T: InRows>(answer: Result<T, Refusal>) -> usize
     ensures { result ≡ answer_rows T.rows answer }
 {
     match answer {
@@ -251,7 +251,7 @@ impl Trip {
     pub const STAYS: usize = Map::PLACES + Book::ROWS;
 }
 
-impl Listed for Trip {
+impl InRows for Trip {
     ghost rows = { λ t. t.count };
 
     fn rows(self) -> usize {
@@ -264,6 +264,23 @@ pub struct Issued {
     pub ticket: u32,
     pub arrival: u32,
     pub count: usize,
+}
+
+impl InRows for Issued {
+    ghost rows = { λ i. i.count };
+
+    fn rows(self) -> usize {
+        self.count
+    }
+}
+
+// A cancellation answers with the number of rows itself.
+impl InRows for usize {
+    ghost rows = { λ n. n };
+
+    fn rows(self) -> usize {
+        self
+    }
 }
 
 // The book after a call that changes it, and what the call answers.
@@ -280,7 +297,7 @@ pub struct Shown {
     pub cursor: Cursor,
 }
 
-impl Listed for Shown {
+impl InRows for Shown {
     ghost rows = { λ s. s.count };
 
     fn rows(self) -> usize {
