@@ -5,7 +5,7 @@ use Rattle.std.proofs.Common.{sym, ap, subst, ◌∙◌, inl, inr, ⊎_elim, ari
 use Rattle.std.proofs.lemmas.List.{length-replicate}
 use Rattle.laws.specs.Order.{lt_or_ge, eq_or_ne}
 use Rattle.laws.specs.Tests.{true_or_false, and_in, or_l, or_r}
-use Rattle.laws.specs.Lists.{at}
+use Rattle.laws.specs.Lists.{at, zeros}
 use Rattle.rules.specs.declared.Link.{Link}
 use Rattle.rules.specs.Map.{link_at, linked}
 use Rattle.lanes.specs.Yards.{linked_at}
@@ -210,11 +210,6 @@ pub record PlaceOnce (F T : List ℕ) (k p : ℕ) (M : List ℕ) (r : Bool) : Ty
   pub all : OnceFrom F T k p → r ≡ true
   pub low : (q : ℕ) → at M q ≤ p + 1
   pub long : length M ≡ 256
-
-zeros : (n q : ℕ) → at (replicate n 0) q ≡ 0
-zeros zero q = refl
-zeros (suc n) zero = refl
-zeros (suc n) (suc q) = zeros n q
 
 module _ (F T : List ℕ) (k : ℕ) where
   pub walked_first : (n : ℕ) → n ≡ 256 → Walked F T k 0 (replicate n 0)
