@@ -3,8 +3,5 @@ use Prim.Native.Nat.{◌-◌, ◌≤◌}
 use Rattle.bookfit.specs.Filed.{Filed}
 use Rattle.bookfit.proofs.file_rows.Given as goal
 
-abbrev pub invariant-loop-c : goal.invariant-loop-c
-invariant-loop-c l = (l.c ≤ l.m) × Filed l.key l.tail l.list l.m l.c l.head l.chain
-
-abbrev pub decreases-loop-c : goal.decreases-loop-c
-decreases-loop-c l = l.m - l.c
+abbrev pub invariant-loop-x : goal.invariant-loop-x
+invariant-loop-x l = Filed l.key l.tail l.list l.m l.x-index l.head l.chain

@@ -4,7 +4,4 @@ use Rattle.flat.specs.Flat.{KeysRise}
 use Rattle.bookfit.proofs.first_fall.Given as goal
 
 abbrev pub invariant-loop-i : goal.invariant-loop-i
-invariant-loop-i l = (1 ≤ l.i) × KeysRise l.key l.i
-
-abbrev pub decreases-loop-i : goal.decreases-loop-i
-decreases-loop-i l = l.count - l.i
+invariant-loop-i l = KeysRise l.key l.i

@@ -5,7 +5,4 @@ use Rattle.bookfit.specs.Marks.{Takes}
 use Rattle.bookfit.proofs.least_astray.Given as goal
 
 abbrev pub invariant-loop-i : goal.invariant-loop-i
-invariant-loop-i l = (l.i ≤ l.count) × Takes (at l.key) (at l.tail) l.count l.i l.taken l.low
-
-abbrev pub decreases-loop-i : goal.decreases-loop-i
-decreases-loop-i l = l.count - l.i
+invariant-loop-i l = Takes (at l.key) (at l.tail) l.count l.i l.taken l.low

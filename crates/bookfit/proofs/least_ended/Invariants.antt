@@ -6,7 +6,4 @@ use Rattle.bookfit.specs.Marks.{Ended}
 use Rattle.bookfit.proofs.least_ended.Given as goal
 
 abbrev pub invariant-loop-i : goal.invariant-loop-i
-invariant-loop-i l = (l.i ≤ l.count) × Ended (at l.key) (at l.tail) l.i l.seen l.low
-
-abbrev pub decreases-loop-i : goal.decreases-loop-i
-decreases-loop-i l = l.count - l.i
+invariant-loop-i l = Ended (at l.key) (at l.tail) l.i l.seen l.low

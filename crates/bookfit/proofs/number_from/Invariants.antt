@@ -5,6 +5,3 @@ use Rattle.bookfit.proofs.number_from.Given as goal
 
 abbrev pub invariant-loop-left : goal.invariant-loop-left
 invariant-loop-left l = (l.top < 1024) × Pile l.rank l.work l.spot
-
-abbrev pub decreases-loop-left : goal.decreases-loop-left
-decreases-loop-left l = l.left

@@ -4,8 +4,5 @@ use Prim.Native.Nat.{◌-◌, ◌≤◌}
 use Rattle.bookfit.specs.Filed.{Passed}
 use Rattle.bookfit.proofs.ranks_fall.Given as goal
 
-abbrev pub invariant-loop-c : goal.invariant-loop-c
-invariant-loop-c l = (l.c ≤ l.m) × Passed l.key l.tail l.count l.list l.head l.chain l.rank l.c
-
-abbrev pub decreases-loop-c : goal.decreases-loop-c
-decreases-loop-c l = l.m - l.c
+abbrev pub invariant-loop-y : goal.invariant-loop-y
+invariant-loop-y l = Passed l.key l.tail l.count l.list l.head l.chain l.rank l.y-index
