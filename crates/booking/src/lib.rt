@@ -135,11 +135,12 @@ fn book_sound(
     let mut label = [86401u32; 1280];
     let mut path = [0u16; 1280];
     let rows = b.count;
-    let c = planner::route(
+    let Some(c) = planner::route(
         n, k, windows, cap, dur, from, to, head, chain, place, start, end, first, key, tail, rows,
         a, z, s, &mut label, &mut path,
-    )
-    .ok_or(Refusal::NoPlan)?;
+    ) else {
+        return Err(Refusal::NoPlan);
+    };
     if rows + c > Book::ROWS {
         return Err(Refusal::FullBook);
     }

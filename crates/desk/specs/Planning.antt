@@ -1,5 +1,5 @@
 -- What the planning call answers at each of its ends.
-use Rattle.std.specs.Prelude.{ℕ, suc, ◌-◌, ◌≤◌, ◌<◌, ◌≡◌, refl, List, length, take, Ok, Err}
+use Rattle.std.specs.Prelude.{ℕ, suc, ◌-◌, ◌≤◌, ◌<◌, ◌≡◌, refl, List, length, take, Option, Some, Ok, Err}
 use Rattle.std.proofs.Common.{sym, ap, ◌∙◌, inl, inr, arith, length-take-le, get_or-take}
 use Rattle.laws.specs.Lists.{at}
 use Rattle.rules.specs.declared.Row.{Row}
@@ -20,7 +20,7 @@ use Rattle.planner.specs.Route.{Routed, PathFits, plan_long, last_arrives, row_l
 
 -- a route's path is fit to be written
 pub route_fits : {Y : Yard} {rows : List Row} {start dest s n k m : ℕ} {D F T H N P S E I lab path : List ℕ} {r : ℕ} → Ground n k m D F T H N P S E I
-    → Routed Y rows start dest s m D P S E lab path r → PathFits D P lab path r
+    → Routed Y rows start dest s m D P S E lab path (Some r) → PathFits D P lab path r
 route_fits {D = D} {P = P} {lab = lab} {path = path} {r = r} G R =
     let l : length (take r path) ≡ r = length-take-le r path (omega (arith, R.few, R.long)) in
     record {

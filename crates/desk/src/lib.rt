@@ -46,11 +46,12 @@ fn plan_sound(
     }
     let mut label = [86401u32; 1280];
     let mut path = [0u16; 1280];
-    let c = planner::route(
+    let Some(c) = planner::route(
         n, k, windows, cap, dur, from, to, head, chain, place, start, end, first, key, tail, count,
         a, z, s, &mut label, &mut path,
-    )
-    .ok_or(Refusal::NoPlan)?;
+    ) else {
+        return Err(Refusal::NoPlan);
+    };
     if out.len() / Row::BYTES < c {
         return Err(Refusal::ShortList);
     }
