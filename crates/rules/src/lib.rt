@@ -50,7 +50,7 @@ impl Map {
     pub const DAY: u32 = 86400;
 }
 
-#[derive(Clone, Copy)]
+#[derive(Clone, Copy, PartialEq, Eq)]
 pub struct Row {
     pub place: u8,
     pub entry: u32,
