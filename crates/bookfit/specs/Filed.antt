@@ -60,6 +60,14 @@ ahead_next N P c r A h f i o p = by r h f (A i o p)
     by r h f (here e) = let z : i ≡ r - 1 = omega arith in absurd (f (subst P z p))
     by r h f (later j e o) = let z : j ≡ r - 1 = omega arith in subst (λ (x : ℕ). OnChain N i (at N x)) z o
 
+-- where the rows of P from c on that are more than Q's are from j + 1 on, and j is none of Q
+pub ahead_after : (N : List ℕ) (P Q : ℕ → Type 0) (c r j : ℕ) → Ahead N Q c r → ((i : ℕ) → Q i → P i) → Ahead N P r (j + 1) → (Q j → ⊥) → Ahead N Q c (at N j)
+ahead_after N P Q c r j A f B g i o q = by (B i (A i o q) (f i q))
+  where
+    by : OnChain N i (j + 1) → OnChain N i (at N j)
+    by (here e) = let z : i ≡ j = omega arith in absurd (g (subst Q z q))
+    by (later k e o) = let z : k ≡ j = omega arith in subst (λ (x : ℕ). OnChain N i (at N x)) z o
+
 -- ---- the first c of the m listed rows L are filed, each on the chain of its slot; the heads stand before the rows that are still to come
 
 pub record Filed (K X L : List ℕ) (m c : ℕ) (H N : List ℕ) : Type 0 where

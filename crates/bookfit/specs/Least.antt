@@ -32,7 +32,7 @@ module _ (Ok : ℕ → Type 0) (K : ℕ → ℕ) where
   module _ {c : ℕ} where
     pub lowest_keep : {low : Option ℕ} → Lowest Ok K c low → Ok c → Lowest Ok K (c + 1) low
     lowest_keep (all f) o = all (below_next Ok c f o)
-    lowest_keep (one {t} L) o = one (record {
+    lowest_keep (one {t = t} L) o = one (record {
       fine = below_next (λ i. ticket_of (K i) < t → Ok i) c L.fine (λ _. o);
       row = L.row;
       within = omega (arith, L.within);
@@ -48,7 +48,7 @@ module _ (Ok : ℕ → Type 0) (K : ℕ → ℕ) where
       has = refl;
       fails = g;
     })
-    lowest_lower (one {t} L) g = ⊎_elim
+    lowest_lower (one {t = t} L) g = ⊎_elim
         (λ (h : t < ticket_of (K c)). one (record {
           fine = below_next (λ i. ticket_of (K i) < min t (ticket_of (K c)) → Ok i) c (λ i h k. L.fine i h (omega arith)) (λ k. absurd (omega arith));
           row = L.row;
@@ -71,7 +71,7 @@ module _ {P Q : ℕ → Type 0} {K : ℕ → ℕ} {c : ℕ} where
   lowest_both (all f) (all g) = all (λ i h. (f i h, g i h))
   lowest_both (all f) (one B) = one (record { fine = λ i h k. (f i h, B.fine i h k); row = B.row; within = B.within; has = B.has; fails = λ o. B.fails o.1 })
   lowest_both (one A) (all g) = one (record { fine = λ i h k. (A.fine i h k, g i h); row = A.row; within = A.within; has = A.has; fails = λ o. A.fails o.0 })
-  lowest_both (one {a} A) (one {b} B) = ⊎_elim
+  lowest_both (one {t = a} A) (one {t = b} B) = ⊎_elim
       (λ (h : a < b). one (record { fine = fine; row = A.row; within = A.within; has = omega (arith, A.has); fails = λ o. A.fails o.0 }))
       (λ (h : b ≤ a). one (record { fine = fine; row = B.row; within = B.within; has = omega (arith, B.has); fails = λ o. B.fails o.1 }))
       (lt_or_ge a b)
@@ -112,7 +112,7 @@ module _ {Ok : ℕ → Type 0} (K : List ℕ) {count : ℕ} where
 
   pub lowest_row : {low : Option ℕ} {t : ℕ} → Lowest Ok (at K) count low → low ≡ Some t → (r : Option ℕ) → FirstOf K count t r → LowestRow Ok K count r
   lowest_row (all f) e r F = absurd (cc)
-  lowest_row {t = t} (one {u} L) e r F = by r F
+  lowest_row {t = t} (one {t = u} L) e r F = by r F
     where
       same : u ≡ t
       same = cc

@@ -316,15 +316,14 @@ fn first_overfull(
     requires lent { Lent start.old end.old place.old first.old }
     ensures { FirstAt (Capped n cap.now) key.now tail.now count result }
 {
+    // Halved by hand: the test looks at a whole beginning of the book, not at one element.
     let mut good = 0;
     let mut bad = count;
     while bad - good > 1 {
         let mid = good + (bad - good) / 2;
-        let found = windows::all_windows(n, mid, cap, dur, key, tail, start, end, place, first);
-        if found == windows::NONE {
-            bad = mid;
-        } else {
-            good = mid;
+        match windows::all_windows(n, mid, cap, dur, key, tail, start, end, place, first) {
+            Some(_) => good = mid,
+            None => bad = mid,
         }
     }
     bad
@@ -406,7 +405,7 @@ fn leaver(
 {
     let p = q as u64;
     let mut cur = start as usize;
-    // A walk along links by number: rows are kept in arrays of a fixed size.
+    // Links are followed by number: the lists of rows stand in fixed arrays.
     while cur > 0 {
         let j = cur - 1;
         if flat::exit_of(tail[j]) == t {
@@ -623,6 +622,7 @@ fn first_barred(key: &[u64; 1024], tail: &[u32; 1024], count: usize) -> usize
     requires fact { Unbarred (rows_in key.now tail.now count) → ⊥ }
     ensures { FirstAt Unbarred key.now tail.now count result }
 {
+    // Halved by hand: the test looks at a whole beginning of the book, not at one element.
     let mut good = 0;
     let mut bad = count;
     while bad - good > 1 {
@@ -693,11 +693,11 @@ pub fn book_fits(
     if let Some(i) = first_broken(key, tail, count, unfit) {
         return Err(Refusal::BrokenRun(i + 1));
     }
-    let w = windows::all_windows(n, count, cap, dur, key, tail, start, end, place, first);
-    if w == windows::NONE {
+    let Some(w) = windows::all_windows(n, count, cap, dur, key, tail, start, end, place, first)
+    else {
         let i = first_overfull(n, count, cap, dur, key, tail, start, end, place, first);
         return Err(Refusal::Overfull(i));
-    }
+    };
     if !exchange_kept(key, tail, count) {
         let i = first_barred(key, tail, count);
         return Err(Refusal::Barred(i));

@@ -3,5 +3,5 @@ use Prim.Native.Nat.{◌<◌}
 use Rattle.bookfit.specs.Filed.{Pile}
 use Rattle.bookfit.proofs.number_from.Given as goal
 
-abbrev pub invariant-loop-left : goal.invariant-loop-left
-invariant-loop-left l = (l.top < 1024) × Pile l.rank l.work l.spot
+abbrev pub invariant-loop : goal.invariant-loop
+invariant-loop l = (l.top < 1024) × Pile l.rank l.work l.spot

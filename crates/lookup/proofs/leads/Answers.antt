@@ -13,20 +13,20 @@ pub put-len-requires : goal.put-len-requires
 put-len-requires c =
     listing_start _ _ refl refl
 
-pub expand-l-requires : goal.expand-l-requires
-expand-l-requires c =
+pub expand-requires-clause-a_le_b : goal.expand-requires-clause-a_le_b
+expand-requires-clause-a_le_b c =
     let a = c.args in
     let B = rw c.key_at.ensures.0 at c.first_from-b.ensures in
     let A = rw c.key_at-in-loop-h.ensures.0 at c.first_back-a.ensures in
-    record { a_le_b = (run_up a.key.now a.tail.now a.n _ a.t A B, omega (arith, B.to, c.requires.timed.keyed.few)); listing = c.loop-h.invariant.list }
+    (run_up a.key.now a.tail.now a.n _ a.t A B, omega (arith, B.to, c.requires.timed.keyed.few))
 
-pub returns-then-l-gt256 : goal.returns-then-l-gt256
-returns-then-l-gt256 c =
+pub returns-in_default : goal.returns-in_default
+returns-in_default c =
     let a = c.args in
     let l = c.loop-h in
     let B = rw c.key_at.ensures.0 at c.first_from-b.ensures in
     let A = rw c.key_at-in-loop-h.ensures.0 at c.first_back-a.ensures in
-    let m = onward_crossing a.key.now a.tail.now a.n _ a.t A B c.requires.timed c.requires.t_lt_field_limit (c.expand-l.ensures.met c.if-l-gt256.true) in
+    let m = onward_crossing a.key.now a.tail.now a.n _ a.t A B c.requires.timed c.requires.t_lt_field_limit (c.expand.ensures.met c.in_default.is) in
     (λ _. going_met (rows_in a.key.now a.tail.now a.n) a.t a.q a.p l.invariant c.loop-h-test.true m, λ _. refl)
 
 pub loop-h-preserved : goal.loop-h-preserved
@@ -38,7 +38,7 @@ loop-h-preserved c =
     going_turn (rows_in a.key.now a.tail.now a.n) a.t a.q a.p l.invariant c.loop-h-test.true (spread_as
     (λ y o. onward_crossing a.key.now a.tail.now a.n _ a.t A B c.requires.timed c.requires.t_lt_field_limit o)
     (λ y x. crossing_onward a.key.now a.tail.now a.n _ a.t A B c.requires.timed c.requires.t_lt_field_limit x)
-    (c.expand-l.ensures.spread c.if-l-gt256.false))
+    (c.expand.ensures.spread _ c.in-Some.is))
 
 pub returns : goal.returns
 returns c =
