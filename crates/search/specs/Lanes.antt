@@ -79,6 +79,9 @@ module _ {C D F T H N : List ℕ} {n k : ℕ} {rows : List Row} {c : ℕ} {P S E
         rise = λ i j a b x. apart i j b (inside q j h x) (L.by_place.of q i h a (omega arith) ∙ sym (L.by_place.of q j h (omega arith) x));
       }
 
+  pub lanes_places : n ≤ 256
+  lanes_places = lanes_ground.places
+
   pub lanes_runs : Runs Y n k D F T
   lanes_runs = record { durs = yard.durs; links = λ p q. refl }
 
