@@ -67,19 +67,22 @@ module _ (K X : ℕ → ℕ) (n c : ℕ) {tl : List Bool} {low : Option ℕ} (M 
   pub takes_last : IsLast (K c) (X c) → Takes K X n (c + 1) tl low
   takes_last e = stay (λ g. absurd (g e)) (lowest_keep (Joins K X n) K M.lowest (record { found = λ g. absurd (g e); alone = λ g. absurd (g e) }))
 
-  module _ (g : IsLast (K c) (X c) → ⊥) (j : ℕ) (s : Spot K n (next_key_value (K c) (X c)) j) where
+  module _ (g : IsLast (K c) (X c) → ⊥) {r : Option ℕ} (s : Spot K n (next_key_value (K c) (X c)) r) where
     -- there is no successor
-    pub takes_none : n ≤ j → Takes K X n (c + 1) tl (lesser low (Some (ticket_of (K c))))
-    takes_none h = stay (λ _ i k q. absurd (s.nowhere (omega (arith, s.within)) i k q)) (lowest_lower (Joins K X n) K M.lowest astray)
+    pub takes_none : r ≡ None → Takes K X n (c + 1) tl (lesser low (Some (ticket_of (K c))))
+    takes_none e = stay (λ _ i k q. absurd (s.nowhere e i k q)) (lowest_lower (Joins K X n) K M.lowest astray)
       where
         astray : Joins K X n c → ⊥
-        astray J = let f = J.found g in s.nowhere (omega (arith, s.within)) f.at f.within f.is
+        astray J = let f = J.found g in s.nowhere e f.at f.within f.is
 
-    module _ (mono : (a b : ℕ) → a < b → b < n → K a < K b) (jn : j < n) where
+    module _ (mono : (a b : ℕ) → a < b → b < n → K a < K b) {j : ℕ} (e : r ≡ Some j) where
+      within : j < n
+      within = s.within j e
+
       one : (b : ℕ) → b < n → K b ≡ next_key_value (K c) (X c) → b ≡ j
       one b h q =
-          let e = s.here jn in
-          ⊎_elim (λ (l : b < j). absurd (omega (arith, mono b j l jn)))
+          let k = s.here j e in
+          ⊎_elim (λ (l : b < j). absurd (omega (arith, mono b j l within)))
           (λ (l : j ≤ b). ⊎_elim (λ (k : j < b). absurd (omega (arith, mono j b k h))) (λ (k : b ≤ j). omega arith) (lt_or_ge j b))
           (lt_or_ge b j)
 
@@ -88,38 +91,28 @@ module _ (K X : ℕ → ℕ) (n c : ℕ) {tl : List Bool} {low : Option ℕ} (M 
       takes_taken t = stay (λ _ b h q. ap (λ (x : ℕ). get_or tl x false) (one b h q) ∙ t) (lowest_lower (Joins K X n) K M.lowest twice)
         where
           twice : Joins K X n c → ⊥
-          twice J = let b = M.marked j jn t in J.alone g b.row b.below b.goes_on (sym b.to ∙ s.here jn)
+          twice J = let b = M.marked j within t in J.alone g b.row b.below b.goes_on (sym b.to ∙ s.here j e)
 
       pub takes_free : n ≤ 1024 → get_or tl j false ≡ false → Takes K X n (c + 1) (set tl j true) low
       takes_free few free = record {
         len = length-set tl j true ∙ M.len;
         marks = below_next (λ i. (IsLast (K i) (X i) → ⊥) → (b : ℕ) → b < n → K b ≡ next_key_value (K i) (X i) → get_or (set tl j true) b false ≡ true) c
-            (λ i h a b k q. mark_kept tl j b (omega (arith, M.len)) (M.marks i h a b k q))
-            (λ _ b k q. mark_set tl j b (omega (arith, M.len)) (one b k q));
+            (λ i h a b k q. mark_kept tl j b (omega (arith, M.len, within)) (M.marks i h a b k q))
+            (λ _ b k q. mark_set tl j b (omega (arith, M.len, within)) (one b k q));
         marked = λ b h t. ⊎_elim
-            (λ (e : b ≡ j). record { row = c; below = omega arith; goes_on = g; to = ap K e ∙ s.here jn })
+            (λ (z : b ≡ j). record { row = c; below = omega arith; goes_on = g; to = ap K z ∙ s.here j e })
             (λ (ne : b ≡ j → ⊥). taken_more (M.marked b h (sym (get_or-set_other tl j b true false ne) ∙ t)))
             (eq_or_ne b j);
         lowest = lowest_keep (Joins K X n) K M.lowest (record {
-          found = λ _. record { at = j; within = jn; is = s.here jn };
-          alone = λ _ i h a q. not_both (M.marks i h a j jn (s.here jn ∙ sym q)) free;
+          found = λ _. record { at = j; within = within; is = s.here j e };
+          alone = λ _ i h a q. not_both (M.marks i h a j within (s.here j e ∙ sym q)) free;
         });
       }
 
-pub spot_as : (K : ℕ → ℕ) (n k k' j : ℕ) → k ≡ k' → Spot K n k j → Spot K n k' j
-spot_as K n k k' j e s = subst (λ (x : ℕ). Spot K n x j) e s
+pub spot_as : (K : ℕ → ℕ) (n k k' : ℕ) (r : Option ℕ) → k ≡ k' → Spot K n k r → Spot K n k' r
+spot_as K n k k' r e s = subst (λ (x : ℕ). Spot K n x r) e s
 
 -- ---- last rows met so far
-
--- a last row of ticket t among the first c
-module _ (K X : ℕ → ℕ) where
-  pub no_last_start : (t : ℕ) → LastBelow K X 0 t → ⊥
-  no_last_start t e = omega (arith, e.below)
-
-  pub no_last_next : (c t : ℕ) → (LastBelow K X c t → ⊥) → (IsLast (K c) (X c) × (ticket_of (K c) ≡ t) → ⊥) → LastBelow K X (c + 1) t → ⊥
-  no_last_next c t f g e = ⊎_elim (λ (h : e.row < c). f (record { row = e.row; below = h; last = e.last; ticket = e.ticket }))
-      (λ (h : c ≤ e.row). let q : e.row ≡ c = omega (arith, e.below) in g (subst (λ (x : ℕ). IsLast (K x) (X x)) q e.last, ap (λ (x : ℕ). ticket_of (K x)) (sym q) ∙ e.ticket))
-      (lt_or_ge e.row c)
 
 -- each last row of the first c has marked its ticket's slot, and `low` is the least ticket of one that comes second, if one does
 pub record Ended (K X : ℕ → ℕ) (c : ℕ) (tl : List Bool) (low : Option ℕ) : Type 0 where

@@ -30,6 +30,7 @@ const DAY: u64 = Map::DAY as u64;
 // ---- the rows of a ticket are one run
 
 // the key of the row that follows one
+#[tactic(auto, unfolding(crate::specs::Join::next_key_value))]
 fn next_key(key: u64, tail: u32) -> u64
     ensures { (result ≡ next_key_value key tail) × (result < key_limit) }
 {
@@ -69,13 +70,9 @@ fn least_astray(key: &[u64; 1024], tail: &[u32; 1024], count: usize, hint: &[u16
         let k = key[i];
         let x = tail[i];
         if !is_last(k, x) {
-            let j = lookup::hinted(key, hint, count, next_key(k, x));
-            if j >= count {
-                low = lesser(low, Some(k % flat::SECOND));
-            } else if taken[j] {
-                low = lesser(low, Some(k % flat::SECOND));
-            } else {
-                taken[j] = true;
+            match lookup::hinted(key, hint, count, next_key(k, x)) {
+                Some(j) if !taken[j] => taken[j] = true,
+                _ => low = lesser(low, Some(k % flat::SECOND)),
             }
         }
     }
@@ -103,10 +100,7 @@ fn last_of(key: u64, tail: u32, t: u64) -> bool
     ensures { Decides result (IsLast key tail × (ticket_of key ≡ t)) }
 {
     let q = flat::next_of(tail) as u64;
-    if q != key / flat::PLACE {
-        return false;
-    }
-    key % flat::SECOND == t
+    q == key / flat::PLACE && key % flat::SECOND == t
 }
 
 // a last row of ticket t is among the first i
@@ -161,29 +155,17 @@ fn ticket_fits(key: u64, next_ticket: u32) -> bool
     ensures { Decides result (TicketFits key next_ticket) }
 {
     let t = key % flat::SECOND;
-    if t == 0 {
-        return false;
-    }
-    t < next_ticket as u64
+    t > 0 && t < u64::from(next_ticket)
 }
 
 // The places of a row are on the map and its seconds in the day.
 fn in_range(n: usize, key: u64, tail: u32) -> bool
     ensures { Decides result (InRange n (row_of key tail)) }
 {
-    if key / flat::PLACE >= n as u64 {
-        return false;
-    }
-    if flat::next_of(tail) as usize >= n {
-        return false;
-    }
-    if key / flat::SECOND % flat::SECOND > DAY {
-        return false;
-    }
-    if flat::exit_of(tail) > Map::DAY {
-        return false;
-    }
-    true
+    key / flat::PLACE < n as u64
+        && usize::from(flat::next_of(tail)) < n
+        && key / flat::SECOND % flat::SECOND <= DAY
+        && flat::exit_of(tail) <= Map::DAY
 }
 
 // the first second at which a row of duration d may end
@@ -332,6 +314,7 @@ fn first_overfull(
 // ---- the exchange rule: no crossing closes a ring with others of its second
 
 // the slot of the crossings that leave a place at a second
+#[tactic(auto, unfolding(crate::specs::Filed::leave_slot_value))]
 fn leave_slot(place: u8, second: u32) -> usize
     requires { second < field_limit }
     ensures { (result ≡ leave_slot_value place second) × (result < 1024) }
@@ -606,6 +589,7 @@ fn linked(key: &[u64; 1024], tail: &[u32; 1024], count: usize) -> bool
 }
 
 // no crossing of the book is barred by the others; most often two that follow each other are not to be found
+#[tactic(auto, using(crate::specs::Ring::unringed_unbarred))]
 fn exchange_kept(key: &[u64; 1024], tail: &[u32; 1024], count: usize) -> bool
     requires { ByPlace key.now tail.now count }
     ensures { Decides result (Unbarred (rows_in key.now tail.now count)) }

@@ -1,5 +1,4 @@
 -- The candidates among the first i rows are listed, in their order; the rows looked at are rows of the book.
-use Prim.Native.Nat.{◌-◌, ◌≤◌}
 use Rattle.bookfit.specs.Ring.{Candidate, Listed}
 use Rattle.bookfit.proofs.candidates.Given as goal
 

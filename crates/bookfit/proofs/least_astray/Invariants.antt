@@ -1,5 +1,4 @@
 -- The successors of the first i rows are marked, and `low` is the least ticket of one of them that has none, or one that was marked before.
-use Prim.Native.Nat.{◌-◌, ◌≤◌}
 use Rattle.laws.specs.Lists.{at}
 use Rattle.bookfit.specs.Marks.{Takes}
 use Rattle.bookfit.proofs.least_astray.Given as goal

@@ -1,5 +1,4 @@
 -- The first i rows are in their ranges, and `low` is the least ticket of one of them that does not fit; a row that fits is in its ranges.
-use Prim.Native.Nat.{◌-◌, ◌≤◌}
 use Rattle.laws.specs.Lists.{at}
 use Rattle.rules.specs.Map.{linked}
 use Rattle.flat.specs.Flat.{links_in}

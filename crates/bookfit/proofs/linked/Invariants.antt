@@ -1,5 +1,5 @@
 -- None of the rows passed is on a ring: a row on a ring is a candidate, and its next place is left then.
-use Prim.Native.Nat.{ℕ, ◌-◌, ◌≤◌, ◌<◌}
+use Prim.Native.Nat.{ℕ, ◌<◌}
 use Rattle.bookfit.specs.Ring.{Ringed}
 use Rattle.bookfit.proofs.linked.Given as goal
 

@@ -1,4 +1,4 @@
--- All stays in range, and each turn takes one from what is left: nothing else is claimed.
+-- All stays in range: nothing else is claimed.
 use Prim.Native.Nat.{◌<◌}
 use Rattle.bookfit.specs.Filed.{Pile}
 use Rattle.bookfit.proofs.number_from.Given as goal

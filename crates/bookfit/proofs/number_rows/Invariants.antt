@@ -1,5 +1,4 @@
 -- All stays in range as far as the list goes.
-use Prim.Native.Nat.{◌-◌, ◌≤◌}
 use Rattle.bookfit.specs.Filed.{Pile}
 use Rattle.bookfit.proofs.number_rows.Given as goal
 
