@@ -192,6 +192,7 @@ fn relax(
     let here = p as usize;
     let soonest = label[w] + dur[here];
     let leave = end[w];
+    // the links of p by number, from its last to its first; 0 ends them
     let mut cur = head[here] as usize;
     while cur > 0 {
         let j = cur - 1;
@@ -275,7 +276,8 @@ pub fn begin_at(
     }
 }
 
-// The windows that lead to w, itself the last, in travel order; how many.
+// The windows that lead to w, itself the last, in travel order; how many. The rules ask for a recursion along the windows before.
+#[tactic(auto, using(crate::specs::Trail::trailed_room))]
 pub fn trail(before: &[u16; 1280], label: &[u32; 1280], w: usize, path: &mut [u16; 1280]) -> usize
     requires rooted { Rooted label.now before.now w }
     requires path_len { length path.old ≡ 1280 }

@@ -21,19 +21,21 @@ returns-then-place-w c =
     let P = c.requires in
     going_goal (lanes_steps P.lanes P.src_lt_windows.0 P.src_lt_windows.1) c.loop-w.invariant (omega arith) c.in-Some.ensures (eq-eqb _ _ c.if-place-w.true)
 
-pub relax-requires : goal.relax-requires
-relax-requires c =
+pub relax-requires-clause-ground : goal.relax-requires-clause-ground
+relax-requires-clause-ground c = lanes_ground c.requires.lanes
+
+pub relax-requires-clause-w_lt_windows : goal.relax-requires-clause-w_lt_windows
+relax-requires-clause-w_lt_windows c =
+    let P = c.requires in
+    let O = lanes_steps P.lanes P.src_lt_windows.0 P.src_lt_windows.1 in
+    (in_n O c.loop-w.invariant (omega arith) c.in-Some.ensures, omega (arith, low_u O c.loop-w.invariant (omega arith) c.in-Some.ensures), lanes_kept P.lanes)
+
+pub relax-requires-clause-labels : goal.relax-requires-clause-labels
+relax-requires-clause-labels c =
     let g = c.loop-w.invariant in
     let P = c.requires in
-    let L = P.lanes in
-    let O = lanes_steps L P.src_lt_windows.0 P.src_lt_windows.1 in
-    let e = c.close.ensures in
-    record {
-      ground = lanes_ground L;
-      w_lt_windows = (in_n O g (omega arith) c.in-Some.ensures, omega (arith, low_u O g (omega arith) c.in-Some.ensures), lanes_kept L);
-      labels = record { low = g.below; above = closed_above O g (omega arith) c.in-Some.ensures e.0; len_lab = g.len_lab; len_bef = g.len_bef };
-      blocks = e.1;
-    }
+    let O = lanes_steps P.lanes P.src_lt_windows.0 P.src_lt_windows.1 in
+    record { low = g.below; above = closed_above O g (omega arith) c.in-Some.ensures c.close.ensures.0; len_lab = g.len_lab; len_bef = g.len_bef }
 
 pub loop-w-smaller : goal.loop-w-smaller
 loop-w-smaller c =
