@@ -80,8 +80,9 @@ fn enter_rows(
     for k in 0..count {
         let r = planner::step_at(dur, place, label, path, count, k, ticket);
         let key = Cursor::from(r);
+        let n = b.count;
         // Where this loop ends is where the row goes.
-        let mut j = b.count;
+        let mut j = n;
         while 0 < j {
             let x = b.rows[j - 1];
             if !key.before(x) {
@@ -91,7 +92,7 @@ fn enter_rows(
             j -= 1;
         }
         b.rows[j] = r;
-        b.count += 1;
+        b.count = n + 1;
     }
 }
 

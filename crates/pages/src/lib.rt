@@ -2,7 +2,6 @@
 #![tactic(auto)]
 
 ghost use Rattle.std.specs.Prelude.{◌≡◌, ◌+◌, ◌≤◌, ◌<◌};
-ghost use Rattle.rules.specs.Answer.{Paged};
 ghost use Rattle.rules.specs.Limits.{row_limit, page_limit};
 ghost use Rattle.rules.specs.Rows.{cursor_key};
 ghost use Rattle.rules.specs.Page.{last_key};
@@ -74,7 +73,7 @@ pub fn page_of(
     requires le_size { 1 ≤ size }
     requires size_le_page_limit { size ≤ page_limit }
     requires size_bound { size ≤ records out.old }
-    ensures { PageDone (rows_in key.now tail.now count) size (cursor_key c) out.old out.new (Paged.Done result) }
+    ensures { PageDone (rows_in key.now tail.now count) size (cursor_key c) out.old out.new (Ok result) }
 {
     let asked = size as usize;
     let first = first_after(key, tail, count, c);
