@@ -76,7 +76,7 @@ fn try_window(
     }
 }
 
-// The first of windows a .. b that ends at x orb where there is none.
+// The first of windows a .. b that ends at x or later, b where there is none.
 fn first_open(end: &[u32; 1280], a: usize, b: usize, x: u32) -> usize
     requires a_le_b { (a ≤ b) × (b ≤ 1280) }
     requires by_index { (i j : ℕ) → a ≤ i → i ≤ j → j < b → at end.now i ≤ at end.now j }

@@ -38,13 +38,6 @@ rows_table s a (suc n) =
     let t = rows_table s (a + row_size) n ∙ tabulate_same n (λ i. row_in s (a + row_size + row_size * i)) (λ i. row_in s (a + row_size * suc i)) (λ i k. ap (row_in s) (e i)) in
     λ i. row_in s (h i) ∷ t i
 
--- one more number in an array that is read
-read_more : (l : List ℕ) (j v : ℕ) (f : ℕ → ℕ) → j < length l → ((i : ℕ) → i < j → at l i ≡ f i) → v ≡ f j → (i : ℕ) → i < j + 1 → at (set l j v) i ≡ f i
-read_more l j v f h old e i k =
-    ⊎_elim (λ (q : i ≡ j). ap (at (set l j v)) q ∙ get_or-set_same l j v 0 h ∙ e ∙ ap f (sym q))
-    (λ (q : i ≡ j → ⊥). get_or-set_other l j i v 0 q ∙ old i (omega arith))
-    (eq_or_ne i j)
-
 -- ---- places
 
 pub record PlacesRead (s : List ℕ) (j : ℕ) (C D : List ℕ) : Type 0 where

@@ -19,17 +19,13 @@ pub fn put_row(r: Row, s: &mut [u8])
     requires { row_size ≤ length s.old }
     ensures { s.new ≡ row_bytes r ++ drop row_size s.old }
 {
-    s[0] = r.place;
-    s[1] = (r.entry / 65536 % 256) as u8;
-    s[2] = (r.entry / 256 % 256) as u8;
-    s[3] = (r.entry % 256) as u8;
-    s[4] = (r.ticket / 65536 % 256) as u8;
-    s[5] = (r.ticket / 256 % 256) as u8;
-    s[6] = (r.ticket % 256) as u8;
-    s[7] = (r.exit / 65536 % 256) as u8;
-    s[8] = (r.exit / 256 % 256) as u8;
-    s[9] = (r.exit % 256) as u8;
-    s[10] = r.next;
+    let [_, entry2, entry1, entry0] = r.entry.to_be_bytes();
+    let [_, ticket2, ticket1, ticket0] = r.ticket.to_be_bytes();
+    let [_, exit2, exit1, exit0] = r.exit.to_be_bytes();
+    let bytes = [
+        r.place, entry2, entry1, entry0, ticket2, ticket1, ticket0, exit2, exit1, exit0, r.next,
+    ];
+    s[..Row::BYTES].copy_from_slice(&bytes);
 }
 
 // A row over the j-th record of a list of records.

@@ -14,7 +14,7 @@ long : length list ≡ list_size
 long = length-replicate {A = ℕ} list_size 0
 
 pub read_answer-requires : goal.read_answer-requires
-read_answer-requires c = ?
+read_answer-requires c = (plan_readable c.lent-n.ensures list long c.plan-a.ensures refl c.plan-a.auto.out).0
 
 pub returns : goal.returns
 returns c = ?
