@@ -99,8 +99,7 @@ fn least_unjoined(key: &[u64; 1024], tail: &[u32; 1024], count: usize) -> Option
 fn last_of(key: u64, tail: u32, t: u64) -> bool
     ensures { Decides result (IsLast key tail × (ticket_of key ≡ t)) }
 {
-    let q = flat::next_of(tail) as u64;
-    q == key / flat::PLACE && key % flat::SECOND == t
+    is_last(key, tail) && key % flat::SECOND == t
 }
 
 // a last row of ticket t is among the first i
@@ -386,15 +385,12 @@ fn leaver(
     requires by_index { (j : ℕ) → at chain.now j ≤ j }
     ensures { NextOn chain.now (Leaves key.now tail.now q t) start result }
 {
-    let p = q as u64;
     let mut cur = start as usize;
     // Links are followed by number: the lists of rows stand in fixed arrays.
     while cur > 0 {
         let j = cur - 1;
-        if flat::exit_of(tail[j]) == t {
-            if key[j] / flat::PLACE == p {
-                return Some(j);
-            }
+        if flat::exit_of(tail[j]) == t && key[j] / flat::PLACE == u64::from(q) {
+            return Some(j);
         }
         cur = chain[j] as usize;
     }

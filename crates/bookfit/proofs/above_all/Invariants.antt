@@ -1,4 +1,4 @@
--- Each row filed that follows row i and is not numbered below it is from c on along the chain: a row passed is numbered below, and the look for the next
+-- Each row filed that follows row i and is not numbered below it is from `from` on along the chain: a row passed is numbered below, and the look for the next
 -- passes none that follows.
 use Prim.Native.Nat.{◌≤◌}
 use Rattle.laws.specs.Lists.{at}

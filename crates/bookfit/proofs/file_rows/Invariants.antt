@@ -1,4 +1,4 @@
--- A row goes to the front of its slot's chain, whose old front it then points to. After c turns the first c listed rows are on the chains of their slots.
+-- A row goes to the front of its slot's chain, whose old front it then points to: after each turn the listed rows met so far are on the chains of their slots.
 use Rattle.bookfit.specs.Filed.{Filed}
 use Rattle.bookfit.proofs.file_rows.Given as goal
 
