@@ -178,9 +178,6 @@ pub record Writing (R : List Row) (was : List ℕ) (count j : ℕ) (out : List �
   pub holds : out ≡ written (take j R) was
   pub long : length out ≡ length was
 
-pub writing_start : (R : List Row) (was : List ℕ) (count : ℕ) → Writing R was count 0 was
-writing_start R was count = record { within = omega arith; holds = refl; long = refl }
-
 pub writing_next : {R : List Row} {was : List ℕ} {count j : ℕ} {out out' : List ℕ} {r : Row} → length R ≡ count → j < count → r ≡ row_at R j → Writing R was count j out → PutAt r j out out' → Writing R was count (j + 1) out'
 writing_next {R} {was} {count} {j} {out} {out'} {r} l h e I P =
     let n : length (take j R) ≡ j = length-take-le j R (omega arith) in

@@ -1,7 +1,7 @@
 -- The entry into a window: the least second that the two windows, the durations and the crossings allow; as a label, 86,401 where there is none.
 use Rattle.std.specs.Prelude.{ℕ, ◌+◌, ◌-◌, ◌≤◌, ◌<◌, min, max, ◌≡◌, refl, Option, Some, None, List}
 use Rattle.std.specs.Option.{unwrap_or}
-use Rattle.std.proofs.Common.{ap, subst, ⊎_elim, arith}
+use Rattle.std.proofs.Common.{⊎_elim, arith}
 use Rattle.laws.specs.Order.{lt_or_ge}
 use Rattle.rules.specs.declared.Row.{Row}
 use Rattle.rules.specs.Rows.{Barred}
@@ -18,37 +18,11 @@ abbrev pub FirstClear : List Row → ℕ → ℕ → ℕ → ℕ → Option ℕ 
 FirstClear rows q p lo hi None = (u : ℕ) → lo ≤ u → u ≤ hi → (Barred rows p q u → ⊥) → ⊥
 FirstClear rows q p lo hi (Some t) = ClearAt rows q p lo hi t
 
-pub first_clear_same : (rows : List Row) (q p lo hi : ℕ) (r r' : Option ℕ) → FirstClear rows q p lo hi r → FirstClear rows q p lo hi r' → r ≡ r'
-first_clear_same rows q p lo hi None None a b = refl
-first_clear_same rows q p lo hi None (Some t) a b = absurd (a t b.from b.to b.clear)
-first_clear_same rows q p lo hi (Some t) None a b = absurd (b t a.from a.to a.clear)
-first_clear_same rows q p lo hi (Some t) (Some u) a b = ap Some (omega (arith, b.low t a.from a.to a.clear, a.low u b.from b.to b.clear))
-
 -- ---- the loop over seconds: each from lo to t - 1 is barred
 
 pub record Passed (rows : List Row) (q p lo t : ℕ) : Type 0 where
   pub from : lo ≤ t
   pub all : (u : ℕ) → lo ≤ u → u < t → Barred rows p q u
-
-pub passed_none : (rows : List Row) (q p lo : ℕ) → Passed rows q p lo lo
-passed_none rows q p lo = record { from = omega arith; all = λ u a b. absurd (omega arith) }
-
-pub passed_more : {rows : List Row} {q p lo t : ℕ} → Passed rows q p lo t → Barred rows p q t → Passed rows q p lo (t + 1)
-passed_more {rows} {q} {p} {lo} {t} B h = record {
-  from = omega (arith, B.from);
-  all = λ u a b. ⊎_elim (λ (c : u < t). B.all u a c) (λ (c : t ≤ u). let e : t ≡ u = omega arith in subst (Barred rows p q) e h) (lt_or_ge u t);
-}
-
-pub passed_all : {rows : List Row} {q p lo hi t : ℕ} → Passed rows q p lo t → hi < t → FirstClear rows q p lo hi None
-passed_all B h u a b c = c (B.all u a (omega arith))
-
-pub passed_to : {rows : List Row} {q p lo hi t : ℕ} → Passed rows q p lo t → t ≤ hi → (Barred rows p q t → ⊥) → FirstClear rows q p lo hi (Some t)
-passed_to {t = t} B k c = record {
-  from = B.from;
-  to = k;
-  clear = c;
-  low = λ u a b d. ⊎_elim (λ (e : u < t). absurd (d (B.all u a e))) (λ (e : t ≤ u). e) (lt_or_ge u t);
-}
 
 -- ---- the entry into a window from .. to of duration d, by who may leave from `soonest` to `leave`
 
