@@ -1,7 +1,7 @@
 -- From a place along the crossings of a second: the places led to are marked and listed; one after the other each is expanded, the places that it
 -- leads to marked. At the end the marks are closed under crossings, and to each marked place crossings lead.
-use Rattle.std.specs.Prelude.{ℕ, ◌+◌, ◌≤◌, ◌<◌, ◌≡◌, Bool, List, Option, None, Some}
-use Rattle.std.proofs.Common.{sym, ap, subst, ◌∙◌, inl, inr, ⊎_elim, arith, below_more}
+use Rattle.std.specs.Prelude.{ℕ, ◌+◌, ◌-◌, ◌≤◌, ◌<◌, ◌≡◌, Bool, List, take, drop, Option, None, Some}
+use Rattle.std.proofs.Common.{sym, ap, subst, ◌∙◌, inl, inr, ⊎_elim, arith, below_more, get_or-take, get_or-drop}
 use Rattle.laws.specs.Order.{lt_or_ge}
 use Rattle.laws.specs.Lists.{at}
 use Rattle.rules.specs.declared.Row.{Row}
@@ -23,6 +23,10 @@ pub record Spread (To : ℕ → Type 0) (p : ℕ) (M : List Bool) (W : List ℕ)
 pub spread_as : {To To' : ℕ → Type 0} {p l l' : ℕ} {M M' : List Bool} {W W' : List ℕ} → ((y : ℕ) → To y → To' y) → ((y : ℕ) → To' y → To y)
     → Spread To p M W l M' W' l' → Spread To' p M W l M' W' l'
 spread_as {p = p} f g S = record { grown = S.grown; new = λ k a b. f _ (S.new k a b); all = λ y h. S.all y (g y h); none = λ h. S.none (g p h) }
+
+-- row i of the rows a .. b
+pub part_at : (X : List ℕ) (a b i : ℕ) → i < b - a → at (take (b - a) (drop a X)) i ≡ at X (a + i)
+part_at X a b i h = get_or-take (b - a) (drop a X) i 0 h ∙ get_or-drop a X i 0
 
 -- one of the rows a .. b goes on from x to y at t
 pub record Onward (X : List ℕ) (a b x t y : ℕ) : Type 0 where

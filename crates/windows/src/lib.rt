@@ -88,6 +88,7 @@ fn past(key: &[u64; 1024], count: usize, a: usize, p: usize) -> usize
     requires count_le_row_limit { count ≤ row_limit }
     ensures { Past key.now count a p result }
 {
+    // any u64 is a key here, so that no bound is asked for as by flat::place_of
     for i in a..count {
         if (key[i] / flat::PLACE) as usize != p {
             return i;
@@ -121,19 +122,9 @@ pub fn all_windows(
     let mut w: usize = 0;
     for p in 0..n {
         let b = past(key, count, a, p);
-        w = sweep(
-            key,
-            tail,
-            a,
-            b,
-            cap[p] as usize,
-            dur[p],
-            p as u8,
-            w,
-            start,
-            end,
-            place,
-        )?;
+        let c = cap[p] as usize;
+        let d = dur[p];
+        w = sweep(key, tail, a, b, c, d, p as u8, w, start, end, place)?;
         a = b;
         first[p + 1] = w as u16;
     }
