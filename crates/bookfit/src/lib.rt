@@ -386,7 +386,7 @@ fn leaver(
     ensures { NextOn chain.now (Leaves key.now tail.now q t) start result }
 {
     let mut cur = start as usize;
-    // Links are followed by number: the lists of rows stand in fixed arrays.
+    // Links are followed by number, 0 at a chain's end: the chains stand in arrays of a fixed size.
     while cur > 0 {
         let j = cur - 1;
         if flat::exit_of(tail[j]) == t && key[j] / flat::PLACE == u64::from(q) {
@@ -557,6 +557,7 @@ fn ring_free(key: &[u64; 1024], tail: &[u32; 1024], count: usize, upto: usize) -
 {
     let mut list = [0u16; 1024];
     let m = candidates(key, tail, count, upto, &mut list);
+    // 0 stands for no row and no number: half the room of an Option, in arrays that are cleared often.
     let mut head = [0u16; 1024];
     let mut chain = [0u16; 1024];
     file_rows(key, tail, upto, &list, m, &mut head, &mut chain);
@@ -590,10 +591,7 @@ fn exchange_kept(key: &[u64; 1024], tail: &[u32; 1024], count: usize) -> bool
     requires { ByPlace key.now tail.now count }
     ensures { Decides result (Unbarred (rows_in key.now tail.now count)) }
 {
-    if !linked(key, tail, count) {
-        return true;
-    }
-    ring_free(key, tail, count, count)
+    !linked(key, tail, count) || ring_free(key, tail, count, count)
 }
 
 // The number, from 1, of the first row at which a crossing is barred, of rows of which one is: the first `good` rows hold no ring, the first `bad` rows do.
