@@ -41,6 +41,7 @@ pub record NoRoute (Y : Yard) (rows : List Row) (start dest s m : ℕ) (D P S E 
   pub marked : (v : ℕ) → v < m → at lab v ≤ 86401
   pub long : length path ≡ 1280
 
+-- what the planner answers: how many windows of path, or that no plan is permitted
 abbrev pub Routed : (Y : Yard) (rows : List Row) (start dest s m : ℕ) (D P S E lab path : List ℕ) → Option ℕ → Type 0
 Routed Y rows start dest s m D P S E lab path None = NoRoute Y rows start dest s m D P S E lab path
 Routed Y rows start dest s m D P S E lab path (Some r) = RouteIs Y rows start dest s m D P S E lab path r

@@ -58,6 +58,7 @@ pub record Unreached (n : ℕ) (nx : ℕ → ℕ → ℕ → ℕ) (goal : ℕ �
   pub known_all : Known n top src s nx (dist_of lab) 86400
   pub marked : (v : ℕ) → dist_of lab v ≤ top
 
+-- what a search answers: the first goal, or that there is none
 abbrev pub Answer : (n : ℕ) (nx : ℕ → ℕ → ℕ → ℕ) (goal : ℕ → Bool) (src s : ℕ) (lab bef : List ℕ) → Option ℕ → Type 0
 Answer n nx goal src s lab bef None = Unreached n nx goal src s lab
 Answer n nx goal src s lab bef (Some r) = Reached n nx goal src s lab bef r
