@@ -5,7 +5,7 @@ ghost use Rattle.std.specs.Prelude.{◌≡◌, ℕ, ◌≤◌, length};
 ghost use Rattle.laws.specs.Lists.{at};
 ghost use Rattle.rules.specs.Limits.{row_limit};
 ghost use Rattle.rules.specs.Rows.{bit};
-ghost use Rattle.rules.specs.Answer.{answer_number, planned_arrival, planned_count, paged_count, paged_more};
+ghost use Rattle.rules.specs.Answer.{number, fault_row, answer_number, planned_arrival, planned_count, paged_count, paged_more};
 ghost use Rattle.rules.specs.Portal.{one_number, PortalPlan, PortalPage};
 ghost use Rattle.portal.specs.Read.{MapRead, BookRead};
 
