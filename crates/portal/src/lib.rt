@@ -79,6 +79,7 @@ fn read_book(s: &[u8], key: &mut [u64; 1024], tail: &mut [u32; 1024]) -> BookHea
 
 // A refusal as one number: its own, and the row that it names.
 fn packed_refusal(r: Refusal) -> u64
+    requires { fault_row r ≤ 1844674407370955161 }
     ensures { result ≡ one_number (number r) 0 (fault_row r) }
 {
     u64::from(r.number()) * 4294967296 + r.row() as u64
