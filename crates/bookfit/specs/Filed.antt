@@ -1,6 +1,6 @@
 -- Rows filed by the place and the second that they leave: each slot has a chain of rows, every link to an earlier row, so that a walk along it ends.
 -- Numbers are given to rows along the chains by a walk in depth. Nothing is asked of the numbers: they are tested.
-use Rattle.std.specs.Prelude.{ℕ, zero, suc, ◌+◌, ◌-◌, ◌*◌, ◌%◌, ◌≤◌, ◌<◌, ◌≡◌, List, [], ◌∷◌, length, set, replicate}
+use Rattle.std.specs.Prelude.{ℕ, zero, suc, ◌+◌, ◌-◌, ◌*◌, ◌%◌, ◌≤◌, ◌<◌, ◌≡◌, Option, MatchOption, List, [], ◌∷◌, length, set, replicate}
 use Rattle.std.proofs.Common.{sym, ap, subst, ◌∙◌, ⊎_elim, arith, length-set, get_or-set_same, get_or-set_other}
 use Rattle.std.proofs.lemmas.List.{length-replicate}
 use Rattle.laws.specs.Order.{lt_or_ge, eq_or_ne}
@@ -49,12 +49,24 @@ chain_kept {N} {k} f i x h (later j e o) =
 abbrev pub Ahead : (N : List ℕ) (P : ℕ → Type 0) (c r : ℕ) → Type 0
 Ahead N P c r = (i : ℕ) → OnChain N i c → P i → OnChain N i r
 
+-- r is a row before which none of P is on the chain from c, none where none is on it at all
+abbrev pub NextOn : (N : List ℕ) (P : ℕ → Type 0) (c : ℕ) → Option ℕ → Type 0
+NextOn N P c r = MatchOption r ((i : ℕ) → OnChain N i c → P i → ⊥) (λ j. (j < c) × Ahead N P c (j + 1))
+
 pub ahead_next : (N : List ℕ) (P : ℕ → Type 0) (c r : ℕ) → Ahead N P c r → 0 < r → (P (r - 1) → ⊥) → Ahead N P c (at N (r - 1))
 ahead_next N P c r A h f i o p = by r h f (A i o p)
   where
     by : (r : ℕ) → 0 < r → (P (r - 1) → ⊥) → OnChain N i r → OnChain N i (at N (r - 1))
     by r h f (here e) = let z : i ≡ r - 1 = omega arith in absurd (f (subst P z p))
     by r h f (later j e o) = let z : j ≡ r - 1 = omega arith in subst (λ (x : ℕ). OnChain N i (at N x)) z o
+
+-- where the rows of P from c on that are more than Q's are from j + 1 on, and j is none of Q
+pub ahead_after : (N : List ℕ) (P Q : ℕ → Type 0) (c r j : ℕ) → Ahead N Q c r → ((i : ℕ) → Q i → P i) → Ahead N P r (j + 1) → (Q j → ⊥) → Ahead N Q c (at N j)
+ahead_after N P Q c r j A f B g i o q = by (B i (A i o q) (f i q))
+  where
+    by : OnChain N i (j + 1) → OnChain N i (at N j)
+    by (here e) = let z : i ≡ j = omega arith in absurd (g (subst Q z q))
+    by (later k e o) = let z : k ≡ j = omega arith in subst (λ (x : ℕ). OnChain N i (at N x)) z o
 
 -- ---- the first c of the m listed rows L are filed, each on the chain of its slot; the heads stand before the rows that are still to come
 
@@ -166,9 +178,10 @@ pub record NotBelow (K X R : List ℕ) (i k : ℕ) : Type 0 where
   pub follows : Follows K X i k
   pub not_below : at R i ≤ at R k
 
-pub none_ahead : (K X H N R : List ℕ) (i r : ℕ) → r ≡ 0 → Ahead N (NotBelow K X R i) (at H (leave_slot_value (next_value (at X i)) (exit_of (at X i)))) r → AboveAll K X H N R i
+pub none_ahead : (K X H N R : List ℕ) (i r : ℕ) → ((k : ℕ) → OnChain N k r → Follows K X i k → ⊥)
+    → Ahead N (NotBelow K X R i) (at H (leave_slot_value (next_value (at X i)) (exit_of (at X i)))) r → AboveAll K X H N R i
 none_ahead K X H N R i r z A k o f =
-    ⊎_elim (λ (h : at R k < at R i). h) (λ (h : at R i ≤ at R k). absurd (chain_ended r z (A k o (record { follows = f; not_below = h })))) (lt_or_ge (at R k) (at R i))
+    ⊎_elim (λ (h : at R k < at R i). h) (λ (h : at R i ≤ at R k). absurd (z k (A k o (record { follows = f; not_below = h })) f)) (lt_or_ge (at R k) (at R i))
 
 -- each of the first c listed rows that is ringed is above all
 pub record Passed (K X : List ℕ) (n : ℕ) (L H N R : List ℕ) (c : ℕ) : Type 0 where

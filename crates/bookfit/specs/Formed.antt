@@ -1,6 +1,6 @@
 -- What the tests of a book's arrays say of the rows that the arrays hold: ranges are the definition's, rows that fit, join and end once are whole plans, and the
 -- first row of the lowest ticket of which one does not is where the book is broken.
-use Rattle.std.specs.Prelude.{ℕ, ◌-◌, ◌≤◌, ◌<◌, ◌≡◌, refl}
+use Rattle.std.specs.Prelude.{ℕ, ◌+◌, ◌-◌, ◌≤◌, ◌<◌, ◌≡◌, refl}
 use Rattle.std.proofs.Common.{sym, ap, subst, ◌∙◌, arith}
 use mathlib.Core.List.{List, [], Memᴰ}
 use Rattle.laws.specs.Lists.{at}
@@ -19,7 +19,7 @@ use Rattle.lookup.specs.Crossings.{ByPlace}
 use Rattle.windows.specs.Places.{Given}
 use Rattle.chains.specs.Laws.{tested_whole, whole_tested}
 use Rattle.bookfit.specs.Keys.{next_parts}
-use Rattle.bookfit.specs.Least.{LowestRow}
+use Rattle.bookfit.specs.Least.{AtFault, LowestAt}
 use Rattle.bookfit.specs.Rows.{AllInRange, RowFits}
 use Rattle.bookfit.specs.Bridge.{RunOk, index_tested, tested_index}
 
@@ -145,17 +145,20 @@ module _ {C D : List ℕ} {n : ℕ} {F T : List ℕ} {k : ℕ} {K X : List ℕ} 
       let o = tested_index K X count (yard_in C D n F T k) Z.rises (λ i h. omega (arith, (Z.numbered.within.each i h).1.exit)) (whole_tested lanes W) i h e in
       (yard_fits yard o.0, o.1)
 
-  pub row_broken : {r : ℕ} → LowestRow (RunsIn D n F T k K X count) K count r → 0 < r → BrokenAt (yard_in C D n F T k) (rows_in K X count) r
-  row_broken {r} L h = record {
-    from = h;
-    to = omega (arith, rows_long K X count, L.bound);
-    broken = λ W. let x = L.fails h in x.3 (at_whole (ticket_of (at K (r - 1))) (subst (Whole (yard_in C D n F T k) (rows_in K X count)) here W) x.0 x.1 x.2);
-    lower = λ s m l. whole_at s.ticket (λ i g e. L.lower h i g (omega (arith, here))) s m refl;
-    first = λ j g e. L.first h j g (sym (ap (λ (x : Row). x.ticket) (row_in K X count j (omega (arith, L.bound)))) ∙ e ∙ here);
+  pub row_broken : {i : ℕ} → LowestAt (RunsIn D n F T k K X count) K count i → BrokenAt (yard_in C D n F T k) (rows_in K X count) (i + 1)
+  row_broken {i} L = record {
+    from = omega arith;
+    to = omega (arith, rows_long K X count, L.within);
+    broken = λ W. A.fails (at_whole (ticket_of (at K i)) (subst (Whole (yard_in C D n F T k) (rows_in K X count)) here W) A.row A.within A.has);
+    lower = λ s m l. whole_at s.ticket (λ i g e. A.fine i g (omega (arith, here))) s m refl;
+    first = λ j g e. L.first j (omega arith) (sym (ap (λ (x : Row). x.ticket) (row_in K X count j (omega (arith, L.within)))) ∙ e ∙ here);
   }
     where
-      here : (row_at (rows_in K X count) (r - 1)).ticket ≡ ticket_of (at K (r - 1))
-      here = ap (λ (x : Row). x.ticket) (row_in K X count (r - 1) (omega (arith, L.bound)))
+      A : AtFault (RunsIn D n F T k K X count) (at K) count (ticket_of (at K i))
+      A = L.fault
+
+      here : (row_at (rows_in K X count) (i + 1 - 1)).ticket ≡ ticket_of (at K i)
+      here = let back : i + 1 - 1 ≡ i = omega arith in rw back (ap (λ (x : Row). x.ticket) (row_in K X count i L.within))
 
 module _ {C D : List ℕ} {n : ℕ} {F T : List ℕ} {k : ℕ} {K X : List ℕ} {count t : ℕ} (Z : Running C D n F T k K X count t) where
   pub runs_whole : AllWhole (yard_in C D n F T k) (rows_in K X count)

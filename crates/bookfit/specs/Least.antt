@@ -1,117 +1,126 @@
--- The least ticket of the rows at fault, by index over keys: all rows of lower tickets are in order, and a row of this ticket is not. With the number, from 1,
--- of the ticket's first row.
-use Rattle.std.specs.Prelude.{ℕ, ◌+◌, ◌-◌, ◌≤◌, ◌<◌, ◌≡◌, ◌⊎◌, List}
-use Rattle.std.proofs.Common.{sym, ap, ◌∙◌, ⊎_elim, arith}
+-- The least ticket of the rows at fault, by index over keys: all rows of lower tickets are in order, and a row of this ticket is not. With the ticket's first row.
+use Rattle.std.specs.Prelude.{ℕ, ◌+◌, ◌≤◌, ◌<◌, ◌≡◌, refl, min, Option, Some, None, MatchOption, List}
+use Rattle.std.proofs.Common.{⊎_elim, arith}
+use Rattle.laws.specs.Order.{lt_or_ge}
 use Rattle.laws.specs.Lists.{at}
 use Rattle.flat.specs.Flat.{ticket_of}
 use Rattle.bookfit.specs.Each.{below_next}
 
--- r is the lesser of a and b
-pub record IsLeast (a b r : ℕ) : Type 0 where
-  pub to_a : r ≤ a
-  pub to_b : r ≤ b
-  pub one : (r ≡ a) ⊎ (r ≡ b)
+-- the lesser of two tickets, where there is one
+abbrev pub lesser : Option ℕ → Option ℕ → Option ℕ
+lesser None b = b
+lesser (Some a) None = Some a
+lesser (Some a) (Some b) = Some (min a b)
 
--- of the first c rows those with tickets below `low` are in order, and one with ticket `low` is not, unless low is 2^24, above every ticket
-pub record Lowest (Ok : ℕ → Type 0) (K : ℕ → ℕ) (c low : ℕ) : Type 0 where
-  pub bound : low ≤ 16777216
-  pub fine : (i : ℕ) → i < c → ticket_of (K i) < low → Ok i
-  pub at : low < 16777216 → (i : ℕ) × (i < c) × (ticket_of (K i) ≡ low) × (Ok i → ⊥)
+-- of the first c rows those with tickets below t are in order, and one with ticket t is not
+pub record AtFault (Ok : ℕ → Type 0) (K : ℕ → ℕ) (c t : ℕ) : Type 0 where
+  pub fine : (i : ℕ) → i < c → ticket_of (K i) < t → Ok i
+  pub row : ℕ
+  pub within : row < c
+  pub has : ticket_of (K row) ≡ t
+  pub fails : Ok row → ⊥
+
+-- the least ticket of one of the first c rows that is not in order, none where all are
+pub data Lowest (Ok : ℕ → Type 0) (K : ℕ → ℕ) (c : ℕ) : Option ℕ → Type 0 where
+  all : ((i : ℕ) → i < c → Ok i) → Lowest Ok K c None
+  one : {t : ℕ} → AtFault Ok K c t → Lowest Ok K c (Some t)
 
 module _ (Ok : ℕ → Type 0) (K : ℕ → ℕ) where
-  pub lowest_start : Lowest Ok K 0 16777216
-  lowest_start = record { bound = omega arith; fine = λ i h. absurd (omega arith); at = λ h. absurd (omega arith) }
+  pub lowest_start : Lowest Ok K 0 None
+  lowest_start = all (λ i h. absurd (omega arith))
 
-  module _ {c low : ℕ} (L : Lowest Ok K c low) where
-    pub lowest_keep : Ok c → Lowest Ok K (c + 1) low
-    lowest_keep o = record {
-      bound = L.bound;
-      fine = below_next (λ i. ticket_of (K i) < low → Ok i) c L.fine (λ _. o);
-      at = λ h. let x = L.at h in (x.0, omega (arith, x.1), x.2, x.3);
-    }
+  module _ {c : ℕ} where
+    pub lowest_keep : {low : Option ℕ} → Lowest Ok K c low → Ok c → Lowest Ok K (c + 1) low
+    lowest_keep (all f) o = all (below_next Ok c f o)
+    lowest_keep (one {t = t} L) o = one (record {
+      fine = below_next (λ i. ticket_of (K i) < t → Ok i) c L.fine (λ _. o);
+      row = L.row;
+      within = omega (arith, L.within);
+      has = L.has;
+      fails = L.fails;
+    })
 
-    pub lowest_lower : (Ok c → ⊥) → {r : ℕ} → IsLeast low (ticket_of (K c)) r → Lowest Ok K (c + 1) r
-    lowest_lower f {r} m = record {
-      bound = omega (arith, m.to_a, L.bound);
-      fine = below_next (λ i. ticket_of (K i) < r → Ok i) c (λ i h k. L.fine i h (omega (arith, m.to_a))) (λ h. absurd (omega (arith, m.to_b)));
-      at = λ h. ⊎_elim
-          (λ (e : r ≡ low). let x = L.at (omega arith) in (x.0, omega (arith, x.1), x.2 ∙ sym e, x.3))
-          (λ (e : r ≡ ticket_of (K c)). (c, omega arith, sym e, f))
-          m.one;
-    }
+    pub lowest_lower : {low : Option ℕ} → Lowest Ok K c low → (Ok c → ⊥) → Lowest Ok K (c + 1) (lesser low (Some (ticket_of (K c))))
+    lowest_lower (all f) g = one (record {
+      fine = λ i h k. below_next (λ i. ticket_of (K i) < ticket_of (K c) → Ok i) c (λ i h _. f i h) (λ k. absurd (omega arith)) i h k;
+      row = c;
+      within = omega arith;
+      has = refl;
+      fails = g;
+    })
+    lowest_lower (one {t = t} L) g = ⊎_elim
+        (λ (h : t < ticket_of (K c)). one (record {
+          fine = below_next (λ i. ticket_of (K i) < min t (ticket_of (K c)) → Ok i) c (λ i h k. L.fine i h (omega arith)) (λ k. absurd (omega arith));
+          row = L.row;
+          within = omega (arith, L.within);
+          has = omega (arith, L.has);
+          fails = L.fails;
+        }))
+        (λ (h : ticket_of (K c) ≤ t). one (record {
+          fine = below_next (λ i. ticket_of (K i) < min t (ticket_of (K c)) → Ok i) c (λ i h k. L.fine i h (omega arith)) (λ k. absurd (omega arith));
+          row = c;
+          within = omega arith;
+          has = omega arith;
+          fails = g;
+        }))
+        (lt_or_ge t (ticket_of (K c)))
 
 -- the lesser of two is the least of both
-pub lowest_both : {P Q : ℕ → Type 0} {K : ℕ → ℕ} {c a b r : ℕ} → Lowest P K c a → Lowest Q K c b → IsLeast a b r → Lowest (λ i. P i × Q i) K c r
-lowest_both {a = a} {b = b} {r = r} A B m = record {
-  bound = omega (arith, m.to_a, A.bound);
-  fine = λ i h k. (A.fine i h (omega (arith, m.to_a)), B.fine i h (omega (arith, m.to_b)));
-  at = λ h. ⊎_elim
-      (λ (e : r ≡ a). let x = A.at (omega arith) in (x.0, x.1, x.2 ∙ sym e, λ o. x.3 o.0))
-      (λ (e : r ≡ b). let x = B.at (omega arith) in (x.0, x.1, x.2 ∙ sym e, λ o. x.3 o.1))
-      m.one;
-}
+module _ {P Q : ℕ → Type 0} {K : ℕ → ℕ} {c : ℕ} where
+  pub lowest_both : {a b : Option ℕ} → Lowest P K c a → Lowest Q K c b → Lowest (λ i. P i × Q i) K c (lesser a b)
+  lowest_both (all f) (all g) = all (λ i h. (f i h, g i h))
+  lowest_both (all f) (one B) = one (record { fine = λ i h k. (f i h, B.fine i h k); row = B.row; within = B.within; has = B.has; fails = λ o. B.fails o.1 })
+  lowest_both (one A) (all g) = one (record { fine = λ i h k. (A.fine i h k, g i h); row = A.row; within = A.within; has = A.has; fails = λ o. A.fails o.0 })
+  lowest_both (one {t = a} A) (one {t = b} B) = ⊎_elim
+      (λ (h : a < b). one (record { fine = fine; row = A.row; within = A.within; has = omega (arith, A.has); fails = λ o. A.fails o.0 }))
+      (λ (h : b ≤ a). one (record { fine = fine; row = B.row; within = B.within; has = omega (arith, B.has); fails = λ o. B.fails o.1 }))
+      (lt_or_ge a b)
+    where
+      fine : (i : ℕ) → i < c → ticket_of (K i) < min a b → P i × Q i
+      fine i h k = (A.fine i h (omega arith), B.fine i h (omega arith))
 
 -- ---- the first row of a ticket
 
 abbrev pub NoneOf : List ℕ → ℕ → ℕ → Type 0
 NoneOf K c t = (i : ℕ) → i < c → ticket_of (at K i) ≡ t → ⊥
 
--- r is the number of the first row of ticket t, 0 where there is none
-pub record FirstOf (K : List ℕ) (count t r : ℕ) : Type 0 where
-  pub bound : r ≤ count
-  pub none : r ≡ 0 → NoneOf K count t
-  pub here : 0 < r → ticket_of (at K (r - 1)) ≡ t
-  pub first : NoneOf K (r - 1) t
+-- row i is the first of ticket t
+pub record FirstRow (K : List ℕ) (count t i : ℕ) : Type 0 where
+  pub within : i < count
+  pub here : ticket_of (at K i) ≡ t
+  pub first : NoneOf K i t
 
-module _ (K : List ℕ) (t : ℕ) where
-  pub none_start : NoneOf K 0 t
-  none_start i h = absurd (omega arith)
-
-  pub none_next : (c : ℕ) → NoneOf K c t → (ticket_of (at K c) ≡ t → ⊥) → NoneOf K (c + 1) t
-  none_next c f g = below_next (λ i. ticket_of (at K i) ≡ t → ⊥) c f g
-
-  module _ (count : ℕ) where
-    pub first_here : (c : ℕ) → c < count → NoneOf K c t → ticket_of (at K c) ≡ t → FirstOf K count t (c + 1)
-    first_here c h f e =
-        let back : c + 1 - 1 ≡ c = omega arith in
-        record {
-          bound = omega arith;
-          none = λ z. absurd (omega arith);
-          here = λ _. ap (λ (i : ℕ). ticket_of (at K i)) back ∙ e;
-          first = λ i k. f i (omega arith);
-        }
-
-    pub first_none : NoneOf K count t → FirstOf K count t 0
-    first_none f = record { bound = omega arith; none = λ _. f; here = λ h. absurd (omega arith); first = λ i h. absurd (omega arith) }
+abbrev pub FirstOf : List ℕ → ℕ → ℕ → Option ℕ → Type 0
+FirstOf K count t r = MatchOption r (NoneOf K count t) (FirstRow K count t)
 
 -- ---- together
 
--- r is the number of the first row of the lowest ticket of which a row is not in order, 0 where all rows are
-pub record LowestRow (Ok : ℕ → Type 0) (K : List ℕ) (count r : ℕ) : Type 0 where
-  pub bound : r ≤ count
-  pub fine : r ≡ 0 → (i : ℕ) → i < count → Ok i
-  pub fails : 0 < r → (i : ℕ) × (i < count) × (ticket_of (at K i) ≡ ticket_of (at K (r - 1))) × (Ok i → ⊥)
-  pub lower : 0 < r → (i : ℕ) → i < count → ticket_of (at K i) < ticket_of (at K (r - 1)) → Ok i
-  pub first : 0 < r → NoneOf K (r - 1) (ticket_of (at K (r - 1)))
+-- row i is the first of the lowest ticket of which a row is not in order
+pub record LowestAt (Ok : ℕ → Type 0) (K : List ℕ) (count i : ℕ) : Type 0 where
+  pub within : i < count
+  pub fault : AtFault Ok (at K) count (ticket_of (at K i))
+  pub first : NoneOf K i (ticket_of (at K i))
 
-module _ {Ok : ℕ → Type 0} (K : List ℕ) {count low : ℕ} (L : Lowest Ok (at K) count low) where
-  pub lowest_none : low ≡ 16777216 → LowestRow Ok K count 0
-  lowest_none e = record {
-    bound = omega arith;
-    fine = λ _ i h. L.fine i h (omega arith);
-    fails = λ h. absurd (omega arith);
-    lower = λ h. absurd (omega arith);
-    first = λ h. absurd (omega arith);
-  }
+-- that row, none where all rows are in order
+abbrev pub LowestRow : (Ok : ℕ → Type 0) (K : List ℕ) (count : ℕ) → Option ℕ → Type 0
+LowestRow Ok K count r = MatchOption r ((i : ℕ) → i < count → Ok i) (LowestAt Ok K count)
 
-  pub lowest_row : (low ≡ 16777216 → ⊥) → {r : ℕ} → FirstOf K count low r → LowestRow Ok K count r
-  lowest_row g {r} F = record {
-    bound = F.bound;
-    fine = λ z. absurd (F.none z x.0 x.1 x.2);
-    fails = λ h. (x.0, x.1, x.2 ∙ sym (F.here h), x.3);
-    lower = λ h i k l. L.fine i k (omega (arith, F.here h));
-    first = λ h i k e. F.first i k (e ∙ F.here h);
-  }
+module _ {Ok : ℕ → Type 0} (K : List ℕ) {count : ℕ} where
+  pub lowest_none : {low : Option ℕ} → Lowest Ok (at K) count low → low ≡ None → (i : ℕ) → i < count → Ok i
+  lowest_none (all f) e = f
+  lowest_none (one L) e = absurd (cc)
+
+  pub lowest_row : {low : Option ℕ} {t : ℕ} → Lowest Ok (at K) count low → low ≡ Some t → (r : Option ℕ) → FirstOf K count t r → LowestRow Ok K count r
+  lowest_row (all f) e r F = absurd (cc)
+  lowest_row {t = t} (one {t = u} L) e r F = by r F
     where
-      x : (i : ℕ) × (i < count) × (ticket_of (at K i) ≡ low) × (Ok i → ⊥)
-      x = L.at (omega (arith, L.bound, g))
+      same : u ≡ t
+      same = cc
+
+      by : (r : Option ℕ) → FirstOf K count t r → LowestRow Ok K count r
+      by None F = absurd (F L.row L.within (omega (arith, L.has, same)))
+      by (Some i) F = record {
+        within = F.within;
+        fault = rw F.here (rw same at L);
+        first = rw F.here F.first;
+      }

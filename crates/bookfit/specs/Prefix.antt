@@ -1,6 +1,6 @@
 -- The first rows of the arrays are the rows of the arrays with a smaller count. Halving for the first row at which P fails: it holds of the first `lo` rows and not
 -- of the first `hi`.
-use Rattle.std.specs.Prelude.{ℕ, zero, suc, ◌+◌, ◌-◌, ◌≤◌, ◌<◌, ◌≡◌, refl, List, [], ◌∷◌, take}
+use Rattle.std.specs.Prelude.{ℕ, zero, suc, ◌+◌, ◌-◌, ◌≤◌, ◌<◌, ◌≡◌, refl, Option, Some, MatchOption, List, [], ◌∷◌, take}
 use Rattle.std.proofs.Common.{sym, ap, subst, ⊎_elim, arith}
 use Rattle.laws.specs.Order.{lt_or_ge}
 use Rattle.laws.specs.Lists.{at, tabulate}
@@ -73,27 +73,20 @@ module _ (P : List Row → Type 0) (K X : List ℕ) (count : ℕ) where
 
 -- ---- rising keys
 
--- r is the number of the first row whose key is not above the one before it, 0 where keys rise
-pub record FirstFall (K : List ℕ) (count r : ℕ) : Type 0 where
-  pub rises : r ≡ 0 → KeysRise K count
-  pub falls : 0 < r → (X : List ℕ) → FirstAt Rising K X count r
+-- r is the first row whose key is not above the one before it, none where keys rise
+abbrev pub FirstFall : List ℕ → ℕ → Option ℕ → Type 0
+FirstFall K count r = MatchOption r (KeysRise K count) (λ i. (X : List ℕ) → FirstAt Rising K X count (i + 1))
 
-pub falls_at : (K : List ℕ) (count i : ℕ) → 1 ≤ i → i < count → KeysRise K i → at K i ≤ at K (i - 1) → FirstFall K count (i + 1)
-falls_at K count i some h R f = record {
-  rises = λ e. absurd (omega arith);
-  falls = λ _ X. narrowed_end Rising K X count (here X) (omega arith);
-}
+pub falls_at : (K : List ℕ) (count i : ℕ) → 1 ≤ i → i < count → KeysRise K i → at K i ≤ at K (i - 1) → FirstFall K count (Some i)
+falls_at K count i some h R f X = narrowed_end Rising K X count here (omega arith)
   where
-    here : (X : List ℕ) → Narrowed Rising K X count i (i + 1)
-    here X = record {
+    here : Narrowed Rising K X count i (i + 1)
+    here = record {
       below = omega arith;
       within = omega arith;
       good = keys_rising K X i R;
       bad = λ q. rise_breaks K i (i + 1) some (omega arith) f (rising_keys K X (i + 1) q);
     }
-
-pub falls_nowhere : (K : List ℕ) (count : ℕ) → KeysRise K count → FirstFall K count 0
-falls_nowhere K count R = record { rises = λ _. R; falls = λ h. absurd (omega arith) }
 
 -- ---- what is asked of the rows of a book holds of the first m of them
 

@@ -1,8 +1,9 @@
 -- The exchange rule by index over keys and tails. A row is ringed where it goes on and is barred. One of the crossings that lead back to its place
 -- enters it when the row leaves, so the row is a candidate; and the first of them is ringed again. So where numbers fall from each ringed row to the
 -- ringed rows that leave its next place then, no row is ringed.
-use Rattle.std.specs.Prelude.{ℕ, ◌+◌, ◌≤◌, ◌<◌, ◌≡◌, refl, length, set}
+use Rattle.std.specs.Prelude.{ℕ, ◌+◌, ◌≤◌, ◌<◌, ◌≡◌, refl, length, set, take}
 use Rattle.std.proofs.Common.{sym, subst, ◌∙◌, arith, length-set, get_or-set_same, get_or-set_other}
+use Rattle.std.proofs.lemmas.List.{length-take, get_or-take}
 use mathlib.Core.List.{List, Memᴰ}
 use Rattle.laws.specs.Order.{strong}
 use Rattle.laws.specs.Lists.{at}
@@ -134,3 +135,7 @@ module _ (P : ℕ → Type 0) (K X : List ℕ) where
 -- with all of which P holds, all of which Q holds
 pub listed_as : {P Q : ℕ → Type 0} {K X : List ℕ} {c : ℕ} {L : List ℕ} {m : ℕ} → ((i : ℕ) → Q i → P i) → Listed P K X c L m → Listed Q K X c L m
 listed_as f A = record { few = A.few; within = A.within; rises = A.rises; goes_on = A.goes_on; all = λ i h q. A.all i h (f i q); long = A.long }
+
+-- what stands in the first m of a list stands in the list
+pub taken_at : (L : List ℕ) (m j : ℕ) → j < length (take m L) → (j < m) × (at (take m L) j ≡ at L j)
+taken_at L m j h = let k : j < m = omega (arith, length-take m L) in (k, get_or-take m L j 0 k)

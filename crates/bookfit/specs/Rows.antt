@@ -1,15 +1,17 @@
 -- What is asked of each row by itself, over packed keys: its numbers are in their ranges, and it keeps to the map, to the day,
 -- to its place's duration and to the links. Rows rise where neighbours do.
-use Rattle.std.specs.Prelude.{ℕ, ◌+◌, ◌-◌, ◌≤◌, ◌<◌, ◌≡◌, refl, Bool, true, List}
-use Rattle.std.proofs.Common.{sym, ap, ⊎_elim, arith}
+use Rattle.std.specs.Prelude.{ℕ, ◌+◌, ◌-◌, ◌≤◌, ◌<◌, ◌≡◌, Bool, true, Option, Some, None, Result, MatchResult, List}
+use Rattle.std.proofs.Common.{ap, ⊎_elim, arith}
 use Rattle.laws.specs.Order.{lt_or_ge, eq_or_ne}
 use Rattle.laws.specs.Lists.{at}
 use Rattle.rules.specs.declared.Row.{Row}
+use Rattle.rules.specs.declared.Refusal.{Refusal}
+use Rattle.rules.specs.declared.Refusal.TheVariants.{BadBook}
 use Rattle.rules.specs.Limits.{day}
 use Rattle.flat.specs.Flat.{ticket_of, row_of, KeysRise}
 use Rattle.chains.specs.Test.{Last}
 use Rattle.bookfit.specs.Each.{Each, each_start, each_next}
-use Rattle.bookfit.specs.Least.{IsLeast, Lowest, lowest_start, lowest_keep, lowest_lower}
+use Rattle.bookfit.specs.Least.{lesser, Lowest, lowest_start, lowest_keep, lowest_lower}
 
 -- ---- rising keys
 
@@ -73,37 +75,32 @@ fits_in_range {r = r} O f = record {
   exit = f.in_day;
 }
 
--- what the look at each row by itself says of the first c: 2^24 + 1 where one is out of range, else the least ticket of one that does not fit
-pub record Unfit (n : ℕ) (dur : ℕ → ℕ) (link : ℕ → ℕ → Bool) (K X : ℕ → ℕ) (t c r : ℕ) : Type 0 where
-  pub out : r ≡ 16777217 → AllInRange n t K X c → ⊥
-  pub within : (r ≡ 16777217 → ⊥) → AllInRange n t K X c
-  pub lowest : (r ≡ 16777217 → ⊥) → Lowest (Fits n dur link K X) K c r
-
--- before a row is found to be out of range
-pub record UnfitTo (n : ℕ) (dur : ℕ → ℕ) (link : ℕ → ℕ → Bool) (K X : ℕ → ℕ) (t c low : ℕ) : Type 0 where
+-- the first c rows are in range, and `low` is the least ticket of one that does not fit, if one does not
+pub record UnfitTo (n : ℕ) (dur : ℕ → ℕ) (link : ℕ → ℕ → Bool) (K X : ℕ → ℕ) (t c : ℕ) (low : Option ℕ) : Type 0 where
   pub within : AllInRange n t K X c
   pub lowest : Lowest (Fits n dur link K X) K c low
 
+-- what the look at each row by itself says: all are in range, with the least ticket of one that does not fit, or one is not
+abbrev pub Unfit : (n : ℕ) (dur : ℕ → ℕ) (link : ℕ → ℕ → Bool) (K X : ℕ → ℕ) (t count : ℕ) → Result (Option ℕ) Refusal → Type 0
+Unfit n dur link K X t count r = MatchResult r (UnfitTo n dur link K X t count) (λ x. (x ≡ BadBook) × (AllInRange n t K X count → ⊥))
+
 module _ (n : ℕ) (dur : ℕ → ℕ) (link : ℕ → ℕ → Bool) (K X : ℕ → ℕ) (t : ℕ) where
-  pub unfit_start : UnfitTo n dur link K X t 0 16777216
+  pub unfit_start : UnfitTo n dur link K X t 0 None
   unfit_start = record { within = each_start (λ i. TicketFits (K i) t × InRange n (row_of (K i) (X i))); lowest = lowest_start (Fits n dur link K X) K }
 
-  module _ {c low : ℕ} (U : UnfitTo n dur link K X t c low) where
+  module _ {c : ℕ} {low : Option ℕ} (U : UnfitTo n dur link K X t c low) where
     pub unfit_fits : OnMap n link → TicketFits (K c) t → Fits n dur link K X c → UnfitTo n dur link K X t (c + 1) low
     unfit_fits O T f = record {
       within = each_next (λ i. TicketFits (K i) t × InRange n (row_of (K i) (X i))) c U.within (T, fits_in_range O f);
       lowest = lowest_keep (Fits n dur link K X) K U.lowest f;
     }
 
-    pub unfit_lower : TicketFits (K c) t → InRange n (row_of (K c) (X c)) → (Fits n dur link K X c → ⊥) → {r : ℕ} → IsLeast low (ticket_of (K c)) r
-        → UnfitTo n dur link K X t (c + 1) r
-    unfit_lower T I f m = record {
+    pub unfit_lower : TicketFits (K c) t → InRange n (row_of (K c) (X c)) → (Fits n dur link K X c → ⊥)
+        → UnfitTo n dur link K X t (c + 1) (lesser low (Some (ticket_of (K c))))
+    unfit_lower T I f = record {
       within = each_next (λ i. TicketFits (K i) t × InRange n (row_of (K i) (X i))) c U.within (T, I);
-      lowest = lowest_lower (Fits n dur link K X) K U.lowest f m;
+      lowest = lowest_lower (Fits n dur link K X) K U.lowest f;
     }
 
-    pub unfit_end : {count : ℕ} → c ≡ count → Unfit n dur link K X t count low
-    unfit_end e = rw (sym e) (record { out = λ z. absurd (omega (arith, U.lowest.bound)); within = λ _. U.within; lowest = λ _. U.lowest })
-
-  pub out_of_range : {c count : ℕ} → c < count → (TicketFits (K c) t × InRange n (row_of (K c) (X c)) → ⊥) → Unfit n dur link K X t count 16777217
-  out_of_range {c} h f = record { out = λ _ A. f (A.each c h); within = λ g. absurd (g refl); lowest = λ g. absurd (g refl) }
+  pub out_of_range : {c count : ℕ} → c < count → (TicketFits (K c) t × InRange n (row_of (K c) (X c)) → ⊥) → AllInRange n t K X count → ⊥
+  out_of_range {c} h f A = f (A.each c h)

@@ -3,7 +3,7 @@
 // Keys are packed, so that the order of keys is the order of numbers.
 #![tactic(auto)]
 
-ghost use Rattle.std.specs.Prelude.{◌≡◌, true, false, ℕ, ◌+◌, ◌≤◌, ◌<◌, ◌%◌, length, eqb};
+ghost use Rattle.std.specs.Prelude.{◌≡◌, true, false, ℕ, ◌+◌, ◌≤◌, ◌<◌, length, eqb};
 ghost use Rattle.laws.specs.Tests.{Decides};
 ghost use Rattle.laws.specs.Lists.{at};
 ghost use Rattle.rules.specs.Bytes.{field_limit};
@@ -14,31 +14,23 @@ ghost use Rattle.lookup.specs.Keys.{Keyed};
 ghost use Rattle.lookup.specs.Crossings.{Timed, ByPlace};
 ghost use Rattle.windows.specs.Places.{Given};
 ghost use Rattle.bookfit.specs.Join.{next_key_value, IsLast, Joins, LastBelow, EndsOnce};
-ghost use Rattle.bookfit.specs.Least.{IsLeast, Lowest, FirstOf};
+ghost use Rattle.bookfit.specs.Least.{lesser, Lowest, FirstOf};
 ghost use Rattle.bookfit.specs.Rows.{TicketFits, InRange, RowFits, OnMap, Unfit};
 ghost use Rattle.bookfit.specs.Prefix.{FirstAt, FirstFall};
 ghost use Rattle.bookfit.specs.Ring.{Candidate, Ringed, Leaves, Listed};
-ghost use Rattle.bookfit.specs.Filed.{leave_slot_value, Chains, Ahead, Filed, Pile, AboveAll};
+ghost use Rattle.bookfit.specs.Filed.{leave_slot_value, Chains, NextOn, Filed, Pile, AboveAll};
 ghost use Rattle.bookfit.specs.Formed.{Capped};
-ghost use Rattle.bookfit.specs.Answer.{Lent, FirstBroken, fault_code, BookFits};
+ghost use Rattle.bookfit.specs.Answer.{Lent, FirstBroken, BookFits};
 
-use rules::{Book, Map};
+use rules::{Book, Map, Refusal};
 
 // The day's end, as wide as a key.
 const DAY: u64 = Map::DAY as u64;
 
-// More than any ticket.
-const NO_TICKET: u64 = flat::SECOND;
-
-// In a ticket's place: a row's numbers are out of their ranges.
-const OUT_OF_RANGE: u64 = NO_TICKET + 1;
-
-// A refusal's number times this stands above its row.
-pub const FAULT: usize = 2048;
-
 // ---- the rows of a ticket are one run
 
 // the key of the row that follows one
+#[tactic(auto, unfolding(crate::specs::Join::next_key_value))]
 fn next_key(key: u64, tail: u32) -> u64
     ensures { (result ≡ next_key_value key tail) × (result < key_limit) }
 {
@@ -54,45 +46,41 @@ fn is_last(key: u64, tail: u32) -> bool
     q == key / flat::PLACE
 }
 
-fn least(a: u64, b: u64) -> u64
-    ensures { IsLeast a b result }
+// the lesser of two tickets, where there is one
+fn lesser(a: Option<u64>, b: Option<u64>) -> Option<u64>
+    ensures { result ≡ lesser a b }
 {
-    if a < b {
-        return a;
+    match (a, b) {
+        (Some(x), Some(y)) => Some(x.min(y)),
+        (None, _) => b,
+        (_, None) => a,
     }
-    b
 }
 
-// The least ticket of a row that goes on and has no successor, or one that a row before has taken; any table serves as hints.
-fn least_astray(key: &[u64; 1024], tail: &[u32; 1024], count: usize, hint: &[u16]) -> u64
+// The least ticket of a row that goes on and has no successor, or one that a row before has taken, if any; any table serves as hints.
+fn least_astray(key: &[u64; 1024], tail: &[u32; 1024], count: usize, hint: &[u16]) -> Option<u64>
     requires count_bound { count ≤ 1024 }
     requires packed { Packed key.now }
     requires keys_rise { KeysRise key.now count }
     ensures { Lowest (Joins (at key.now) (at tail.now) count) (at key.now) count result }
 {
     let mut taken = [false; 1024];
-    let mut low = NO_TICKET;
-    let mut i = 0;
-    while i < count {
+    let mut low = None;
+    for i in 0..count {
         let k = key[i];
         let x = tail[i];
         if !is_last(k, x) {
-            let j = lookup::hinted(key, hint, count, next_key(k, x));
-            if j >= count {
-                low = least(low, k % flat::SECOND);
-            } else if taken[j] {
-                low = least(low, k % flat::SECOND);
-            } else {
-                taken[j] = true;
+            match lookup::hinted(key, hint, count, next_key(k, x)) {
+                Some(j) if !taken[j] => taken[j] = true,
+                _ => low = lesser(low, Some(k % flat::SECOND)),
             }
         }
-        i += 1;
     }
     low
 }
 
 // The same: a table of hints pays off where rows are many.
-fn least_unjoined(key: &[u64; 1024], tail: &[u32; 1024], count: usize) -> u64
+fn least_unjoined(key: &[u64; 1024], tail: &[u32; 1024], count: usize) -> Option<u64>
     requires count_bound { count ≤ 1024 }
     requires packed { Packed key.now }
     requires keys_rise { KeysRise key.now count }
@@ -111,11 +99,7 @@ fn least_unjoined(key: &[u64; 1024], tail: &[u32; 1024], count: usize) -> u64
 fn last_of(key: u64, tail: u32, t: u64) -> bool
     ensures { Decides result (IsLast key tail × (ticket_of key ≡ t)) }
 {
-    let q = flat::next_of(tail) as u64;
-    if q != key / flat::PLACE {
-        return false;
-    }
-    key % flat::SECOND == t
+    is_last(key, tail) && key % flat::SECOND == t
 }
 
 // a last row of ticket t is among the first i
@@ -123,72 +107,46 @@ fn last_among(key: &[u64; 1024], tail: &[u32; 1024], i: usize, t: u64) -> bool
     requires { i ≤ 1024 }
     ensures { Decides result (LastBelow (at key.now) (at tail.now) i t) }
 {
-    let mut j = 0;
-    while j < i {
-        if last_of(key[j], tail[j], t) {
-            return true;
-        }
-        j += 1;
-    }
-    false
+    key[..i]
+        .iter()
+        .zip(&tail[..i])
+        .any(|(k, x)| last_of(*k, *x, t))
 }
 
-// the slot of a key's ticket
-fn slot_of(k: u64) -> usize
-    ensures { (result ≡ k % 4096) × (result < 4096) }
-{
-    (k % 4096) as usize
-}
-
-// where the slot is marked: a last row of ticket t is among the first i
-fn last_met(key: &[u64; 1024], tail: &[u32; 1024], i: usize, t: u64, marked: bool) -> bool
-    requires { i ≤ 1024 }
-    ensures { (result ≡ true → LastBelow (at key.now) (at tail.now) i t) × (marked ≡ true → LastBelow (at key.now) (at tail.now) i t → result ≡ true) }
-{
-    if !marked {
-        return false;
-    }
-    last_among(key, tail, i, t)
-}
-
-// The least ticket of a last row before which another is the last of its ticket: a look back only where a ticket's slot is marked already.
-fn least_ended(key: &[u64; 1024], tail: &[u32; 1024], count: usize) -> u64
+// The least ticket of a last row before which another is the last of its ticket, if any: a look back only where a ticket's slot is marked already.
+fn least_ended(key: &[u64; 1024], tail: &[u32; 1024], count: usize) -> Option<u64>
     requires { count ≤ 1024 }
     ensures { Lowest (EndsOnce (at key.now) (at tail.now)) (at key.now) count result }
 {
     let mut seen = [false; 4096];
-    let mut low = NO_TICKET;
-    let mut i = 0;
-    while i < count {
+    let mut low = None;
+    for i in 0..count {
         let k = key[i];
         if is_last(k, tail[i]) {
-            let h = slot_of(k);
-            let s = seen[h];
-            if last_met(key, tail, i, k % flat::SECOND, s) {
-                low = least(low, k % flat::SECOND);
+            let h = (k % 4096) as usize;
+            let t = k % flat::SECOND;
+            if seen[h] && last_among(key, tail, i, t) {
+                low = lesser(low, Some(t));
             }
             seen[h] = true;
         }
-        i += 1;
     }
     low
 }
 
 // ---- the order of keys, and each row by itself
 
-// The number, from 1, of the first row whose key is not above the one before it; 0 where keys rise.
-fn first_fall(key: &[u64; 1024], count: usize) -> usize
+// The first row whose key is not above the one before it, none where keys rise.
+fn first_fall(key: &[u64; 1024], count: usize) -> Option<usize>
     requires { count ≤ 1024 }
     ensures { FirstFall key.now count result }
 {
-    let mut i = 1;
-    while i < count {
+    for i in 1..count {
         if key[i - 1] >= key[i] {
-            return i + 1;
+            return Some(i);
         }
-        i += 1;
     }
-    0
+    None
 }
 
 // the ticket was issued: at least 1 and below the next number
@@ -196,29 +154,17 @@ fn ticket_fits(key: u64, next_ticket: u32) -> bool
     ensures { Decides result (TicketFits key next_ticket) }
 {
     let t = key % flat::SECOND;
-    if t == 0 {
-        return false;
-    }
-    t < next_ticket as u64
+    t > 0 && t < u64::from(next_ticket)
 }
 
 // The places of a row are on the map and its seconds in the day.
 fn in_range(n: usize, key: u64, tail: u32) -> bool
     ensures { Decides result (InRange n (row_of key tail)) }
 {
-    if key / flat::PLACE >= n as u64 {
-        return false;
-    }
-    if flat::next_of(tail) as usize >= n {
-        return false;
-    }
-    if key / flat::SECOND % flat::SECOND > DAY {
-        return false;
-    }
-    if flat::exit_of(tail) > Map::DAY {
-        return false;
-    }
-    true
+    key / flat::PLACE < n as u64
+        && usize::from(flat::next_of(tail)) < n
+        && key / flat::SECOND % flat::SECOND <= DAY
+        && flat::exit_of(tail) <= Map::DAY
 }
 
 // the first second at which a row of duration d may end
@@ -265,7 +211,7 @@ fn row_fits(
     mapfit::linked_by(p, next, k, from, to, head, chain)
 }
 
-// The least ticket of a row that does not fit, or OUT_OF_RANGE where a row's numbers are out of their ranges. A row that fits is within them.
+// The least ticket of a row that does not fit, if one does not; refused where a row's numbers are out of their ranges. A row that fits is within them.
 fn least_unfit(
     n: usize,
     k: usize,
@@ -278,7 +224,7 @@ fn least_unfit(
     key: &[u64; 1024],
     tail: &[u32; 1024],
     count: usize,
-) -> u64
+) -> Result<Option<u64>, Refusal>
     requires count_bound { count ≤ 1024 }
     requires k_bound { k ≤ 1024 }
     requires chained { Chained from.now k head.now chain.now }
@@ -287,42 +233,38 @@ fn least_unfit(
     ensures { Unfit n (at dur.now) (linked (links_in from.now to.now k)) (at key.now) (at tail.now)
         next_ticket count result }
 {
-    let mut low = NO_TICKET;
-    let mut i = 0;
-    while i < count {
+    let mut low = None;
+    for i in 0..count {
         let x = key[i];
         let y = tail[i];
         if !ticket_fits(x, next_ticket) {
-            return OUT_OF_RANGE;
+            return Err(Refusal::BadBook);
         }
         if !row_fits(n, k, dur, from, to, head, chain, x, y) {
             if !in_range(n, x, y) {
-                return OUT_OF_RANGE;
+                return Err(Refusal::BadBook);
             }
-            low = least(low, x % flat::SECOND);
+            low = lesser(low, Some(x % flat::SECOND));
         }
-        i += 1;
     }
-    low
+    Ok(low)
 }
 
-// The number, from 1, of the first row of ticket t; 0 where there is none.
-fn first_of(key: &[u64; 1024], count: usize, t: u64) -> usize
+// The first row of ticket t, if there is one.
+fn first_of(key: &[u64; 1024], count: usize, t: u64) -> Option<usize>
     requires { count ≤ 1024 }
     ensures { FirstOf key.now count t result }
 {
-    let mut j = 0;
-    while j < count {
-        if key[j] % flat::SECOND == t {
-            return j + 1;
-        }
-        j += 1;
-    }
-    0
+    key[..count].iter().position(|k| *k % flat::SECOND == t)
 }
 
-// The number, from 1, of the first row of the lowest ticket whose rows are no plan; 0 where all are. `unfit` is the least ticket of a row that does not fit.
-fn first_broken(key: &[u64; 1024], tail: &[u32; 1024], count: usize, unfit: u64) -> usize
+// The first row of the lowest ticket whose rows are no plan, none where all are. `unfit` is the least ticket of a row that does not fit.
+fn first_broken(
+    key: &[u64; 1024],
+    tail: &[u32; 1024],
+    count: usize,
+    unfit: Option<u64>,
+) -> Option<usize>
     requires count_bound { count ≤ 1024 }
     requires packed { Packed key.now }
     requires keys_rise { KeysRise key.now count }
@@ -330,11 +272,8 @@ fn first_broken(key: &[u64; 1024], tail: &[u32; 1024], count: usize, unfit: u64)
 {
     let astray = least_unjoined(key, tail, count);
     let ended = least_ended(key, tail, count);
-    let low = least(unfit, least(astray, ended));
-    if low == NO_TICKET {
-        return 0;
-    }
-    first_of(key, count, low)
+    let t = lesser(unfit, lesser(astray, ended))?;
+    first_of(key, count, t)
 }
 
 // ---- a place overfilled
@@ -358,15 +297,14 @@ fn first_overfull(
     requires lent { Lent start.old end.old place.old first.old }
     ensures { FirstAt (Capped n cap.now) key.now tail.now count result }
 {
+    // Halved by hand: the test looks at a whole beginning of the book, not at one element.
     let mut good = 0;
     let mut bad = count;
     while bad - good > 1 {
         let mid = good + (bad - good) / 2;
-        let found = windows::all_windows(n, mid, cap, dur, key, tail, start, end, place, first);
-        if found == windows::NONE {
-            bad = mid;
-        } else {
-            good = mid;
+        match windows::all_windows(n, mid, cap, dur, key, tail, start, end, place, first) {
+            Some(_) => good = mid,
+            None => bad = mid,
         }
     }
     bad
@@ -375,27 +313,13 @@ fn first_overfull(
 // ---- the exchange rule: no crossing closes a ring with others of its second
 
 // the slot of the crossings that leave a place at a second
+#[tactic(auto, unfolding(crate::specs::Filed::leave_slot_value))]
 fn leave_slot(place: u8, second: u32) -> usize
     requires { second < field_limit }
     ensures { (result ≡ leave_slot_value place second) × (result < 1024) }
 {
     let p = place as u32;
     ((second * 11 + p * 301) % 1024) as usize
-}
-
-fn broad(x: u16) -> usize
-    ensures { result ≡ x }
-{
-    x as usize
-}
-
-// the row that stands at c in a list
-fn row_at(list: &[u16; 1024], c: usize) -> usize
-    requires c_bound { c < 1024 }
-    requires c_bound_2 { at list.now c < 1024 }
-    ensures { (result ≡ at list.now c) × (result < 1024) }
-{
-    broad(list[c])
 }
 
 // Of the first `upto` rows those that go on out of a place which another of the book enters then: no other can be on a ring. How many they are.
@@ -412,8 +336,7 @@ fn candidates(
     ensures { Listed (Candidate key.now tail.now count) key.now tail.now upto list.new result }
 {
     let mut m = 0;
-    let mut i = 0;
-    while i < upto {
+    for i in 0..upto {
         let k = key[i];
         let x = tail[i];
         if lookup::entered_after(key, count, i, flat::place_of(k), flat::exit_of(x)) {
@@ -422,7 +345,6 @@ fn candidates(
                 m += 1;
             }
         }
-        i += 1;
     }
     m
 }
@@ -442,17 +364,15 @@ fn file_rows(
     requires filed { Filed key.now tail.now list.now m 0 head.old chain.old }
     ensures { Filed key.now tail.now list.now m m head.new chain.new }
 {
-    let mut c = 0;
-    while c < m {
-        let i = row_at(list, c);
+    for x in &list[..m] {
+        let i = *x as usize;
         let h = leave_slot(flat::place_of(key[i]), flat::exit_of(tail[i]));
         chain[i] = head[h];
-        head[h] = (i + 1) as u16;
-        c += 1;
+        head[h] = *x + 1;
     }
 }
 
-// The first row from start on along a chain that leaves place q at t, counted from 1 as in the chain; 0 where there is none.
+// The first row from start on along a chain that leaves place q at t, if there is one.
 fn leaver(
     key: &[u64; 1024],
     tail: &[u32; 1024],
@@ -460,23 +380,21 @@ fn leaver(
     start: u16,
     q: u8,
     t: u32,
-) -> usize
+) -> Option<usize>
     requires start_bound { start ≤ 1024 }
     requires by_index { (j : ℕ) → at chain.now j ≤ j }
-    ensures { (result ≤ start) × (result ≤ 1024) × Ahead chain.now (Leaves key.now tail.now q t) start result }
+    ensures { NextOn chain.now (Leaves key.now tail.now q t) start result }
 {
-    let p = q as u64;
-    let mut cur = broad(start);
+    let mut cur = start as usize;
+    // Links are followed by number: the lists of rows stand in fixed arrays.
     while cur > 0 {
         let j = cur - 1;
-        if flat::exit_of(tail[j]) == t {
-            if key[j] / flat::PLACE == p {
-                return cur;
-            }
+        if flat::exit_of(tail[j]) == t && key[j] / flat::PLACE == u64::from(q) {
+            return Some(j);
         }
-        cur = broad(chain[j]);
+        cur = chain[j] as usize;
     }
-    0
+    None
 }
 
 // Row i put on the pile, before the first row of the chain of its next place.
@@ -518,20 +436,18 @@ fn number_from(
 {
     let mut done = from;
     let mut top = 0;
-    let mut left: usize = 20000;
     pile_up(tail, head, rank, work, spot, 0, i);
-    while left > 0 {
-        left -= 1;
-        let x = row_at(work, top);
-        let c = leaver(
-            key,
-            tail,
-            chain,
-            spot[top],
-            flat::next_of(tail[x]),
-            flat::exit_of(tail[x]),
-        );
-        if c == 0 {
+    for _ in 0..20000 {
+        let x = work[top] as usize;
+        let q = flat::next_of(tail[x]);
+        let t = flat::exit_of(tail[x]);
+        if let Some(j) = leaver(key, tail, chain, spot[top], q, t) {
+            spot[top] = chain[j];
+            if rank[j] == 0 && top < 1023 {
+                top += 1;
+                pile_up(tail, head, rank, work, spot, top, j);
+            }
+        } else {
             if done < 1024 {
                 done += 1;
             }
@@ -540,15 +456,6 @@ fn number_from(
                 return done;
             }
             top -= 1;
-        } else {
-            let j = c - 1;
-            spot[top] = chain[j];
-            if rank[j] == 0 {
-                if top < 1023 {
-                    top += 1;
-                    pile_up(tail, head, rank, work, spot, top, j);
-                }
-            }
         }
     }
     done
@@ -573,13 +480,11 @@ fn number_rows(
     let mut work = [0u16; 1024];
     let mut spot = [0u16; 1024];
     let mut done: u16 = 0;
-    let mut c = 0;
-    while c < m {
-        let i = row_at(list, c);
+    for x in &list[..m] {
+        let i = *x as usize;
         if rank[i] == 0 {
             done = number_from(key, tail, head, chain, rank, &mut work, &mut spot, i, done);
         }
-        c += 1;
     }
 }
 
@@ -599,13 +504,12 @@ fn above_all(
     let q = flat::next_of(tail[i]);
     let t = flat::exit_of(tail[i]);
     let r = rank[i];
-    let mut c = leaver(key, tail, chain, head[leave_slot(q, t)], q, t);
-    while c > 0 {
-        let j = c - 1;
+    let mut from = head[leave_slot(q, t)];
+    while let Some(j) = leaver(key, tail, chain, from, q, t) {
         if rank[j] >= r {
             return false;
         }
-        c = leaver(key, tail, chain, chain[j], q, t);
+        from = chain[j];
     }
     true
 }
@@ -626,9 +530,8 @@ fn ranks_fall(
     requires filed { Filed key.now tail.now list.now m m head.now chain.now }
     ensures { Decides result (Unbarred (rows_in key.now tail.now count)) }
 {
-    let mut c = 0;
-    while c < m {
-        let i = row_at(list, c);
+    for y in &list[..m] {
+        let i = *y as usize;
         if !above_all(key, tail, head, chain, rank, i) {
             let x = tail[i];
             if lookup::leads(
@@ -642,7 +545,6 @@ fn ranks_fall(
                 return false;
             }
         }
-        c += 1;
     }
     true
 }
@@ -668,8 +570,7 @@ fn linked(key: &[u64; 1024], tail: &[u32; 1024], count: usize) -> bool
     requires { ByPlace key.now tail.now count }
     ensures { result ≡ false → (i : ℕ) → Ringed key.now tail.now count i → ⊥ }
 {
-    let mut i = 0;
-    while i < count {
+    for i in 0..count {
         let k = key[i];
         let x = tail[i];
         if lookup::entered_after(key, count, i, flat::place_of(k), flat::exit_of(x)) {
@@ -679,12 +580,12 @@ fn linked(key: &[u64; 1024], tail: &[u32; 1024], count: usize) -> bool
                 }
             }
         }
-        i += 1;
     }
     false
 }
 
 // no crossing of the book is barred by the others; most often two that follow each other are not to be found
+#[tactic(auto, using(crate::specs::Ring::unringed_unbarred))]
 fn exchange_kept(key: &[u64; 1024], tail: &[u32; 1024], count: usize) -> bool
     requires { ByPlace key.now tail.now count }
     ensures { Decides result (Unbarred (rows_in key.now tail.now count)) }
@@ -701,6 +602,7 @@ fn first_barred(key: &[u64; 1024], tail: &[u32; 1024], count: usize) -> usize
     requires fact { Unbarred (rows_in key.now tail.now count) → ⊥ }
     ensures { FirstAt Unbarred key.now tail.now count result }
 {
+    // Halved by hand: the test looks at a whole beginning of the book, not at one element.
     let mut good = 0;
     let mut bad = count;
     while bad - good > 1 {
@@ -716,16 +618,8 @@ fn first_barred(key: &[u64; 1024], tail: &[u32; 1024], count: usize) -> usize
 
 // ---- the whole book
 
-// A refusal and its row as one number, above every number of windows.
-fn fault(number: usize, row: usize) -> usize
-    requires { (number ≤ 16) × (row ≤ 1024) }
-    ensures { result ≡ fault_code number row }
-{
-    number * FAULT + row
-}
-
-// The number of free windows of a well-formed book, which stand in the lent arrays place after place; else what is wrong with it, as one number with the
-// row at which it shows. A row is looked for only where its check has failed.
+// The number of free windows of a well-formed book, which stand in the lent arrays place after place; else what is wrong with it and at which row.
+// A row is looked for only where its check has failed.
 pub fn book_fits(
     n: usize,
     k: usize,
@@ -743,7 +637,7 @@ pub fn book_fits(
     end: &mut [u32; 1280],
     place: &mut [u8; 1280],
     first: &mut [u16; 257],
-) -> usize
+) -> Result<usize, Refusal>
     requires map_rules { MapRules (places_in cap.now dur.now n) (links_in from.now to.now k) }
     requires chained { Chained from.now k head.now chain.now }
     requires packed { Packed key.now }
@@ -752,13 +646,13 @@ pub fn book_fits(
         result start.new end.new place.new first.new }
 {
     if count > Book::ROWS {
-        return fault(2, 0);
+        return Err(Refusal::BadBook);
     }
     if next_ticket < 1 {
-        return fault(2, 0);
+        return Err(Refusal::BadBook);
     }
     if next_ticket > Book::TICKETS {
-        return fault(2, 0);
+        return Err(Refusal::BadBook);
     }
     let unfit = least_unfit(
         n,
@@ -772,26 +666,21 @@ pub fn book_fits(
         key,
         tail,
         count,
-    );
-    if unfit == OUT_OF_RANGE {
-        return fault(2, 0);
+    )?;
+    if let Some(i) = first_fall(key, count) {
+        return Err(Refusal::KeysFall(i + 1));
     }
-    let falls = first_fall(key, count);
-    if falls > 0 {
-        return fault(13, falls);
+    if let Some(i) = first_broken(key, tail, count, unfit) {
+        return Err(Refusal::BrokenRun(i + 1));
     }
-    let broken = first_broken(key, tail, count, unfit);
-    if broken > 0 {
-        return fault(14, broken);
-    }
-    let w = windows::all_windows(n, count, cap, dur, key, tail, start, end, place, first);
-    if w == windows::NONE {
+    let Some(w) = windows::all_windows(n, count, cap, dur, key, tail, start, end, place, first)
+    else {
         let i = first_overfull(n, count, cap, dur, key, tail, start, end, place, first);
-        return fault(15, i);
-    }
+        return Err(Refusal::Overfull(i));
+    };
     if !exchange_kept(key, tail, count) {
         let i = first_barred(key, tail, count);
-        return fault(16, i);
+        return Err(Refusal::Barred(i));
     }
-    w
+    Ok(w)
 }

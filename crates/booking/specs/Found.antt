@@ -1,6 +1,6 @@
 -- What a search on a good book found: the chosen plan, which is permitted, and whose rows under the next ticket can be put in. The ticket is in no
 -- booked row and the plan's entries rise, so that the rows' keys are new and all different.
-use Rattle.std.specs.Prelude.{ℕ, ◌+◌, ◌≤◌, ◌<◌, ◌≡◌, take}
+use Rattle.std.specs.Prelude.{ℕ, ◌+◌, ◌≤◌, ◌<◌, ◌≡◌, Some, None, take}
 use Rattle.std.proofs.Common.{sym, ap, subst, ◌∙◌, arith}
 use mathlib.Core.List.{List, Memᴰ}
 use Rattle.rules.specs.declared.Row.{Row}
@@ -45,19 +45,19 @@ module _ {b : Book} {C D F T H L : List ℕ} {n k : ℕ} {K X P S E I : List ℕ
   pub room_there : (p t : ℕ) → p < Y.places → load (rows_in K X b.count) p t ≤ Y.cap p
   room_there p t h = subst (λ (rows : List Row). load rows p t ≤ Y.cap p) (sym Q.rows) (Q.formed.room p t h)
 
-  module _ {start dest s : ℕ} {lab path : List ℕ} {r : ℕ} (R : Routed Y (rows_in K X b.count) start dest s m D P S E lab path r) where
-    abbrev plan : List Stay
-    plan = plan_of D P lab (take r path)
+  module _ {start dest s : ℕ} {lab path : List ℕ} where
+    pub none_found : Routed Y (rows_in K X b.count) start dest s m D P S E lab path None → (other : List Stay) → Permitted Y (rows_of b) start dest s other → ⊥
+    none_found R other A = R.none other (subst (λ (rows : List Row). Permitted Y rows start dest s other) (sym Q.rows) A)
 
-    pub found_fits : PathFits D P lab path r
-    found_fits = route_fits (lanes_ground Q.lanes) R
+    module _ {r : ℕ} (R : Routed Y (rows_in K X b.count) start dest s m D P S E lab path (Some r)) where
+      abbrev plan : List Stay
+      plan = plan_of D P lab (take r path)
 
-    pub none_found : r ≡ 0 → (other : List Stay) → Permitted Y (rows_of b) start dest s other → ⊥
-    none_found e other A = R.none e other (subst (λ (rows : List Row). Permitted Y rows start dest s other) (sym Q.rows) A)
+      pub found_fits : PathFits D P lab path r
+      found_fits = route_fits (lanes_ground Q.lanes) R
 
-    module _ (h : 0 < r) where
       pub found_chosen : Chosen Y (rows_of b) start dest s (plan_of D P lab (take r path))
-      found_chosen = subst (λ (rows : List Row). Chosen Y rows start dest s plan) Q.rows (R.chosen h)
+      found_chosen = subst (λ (rows : List Row). Chosen Y rows start dest s plan) Q.rows R.chosen
 
       module _ (on : dest < Y.places) where
         pub found_permitted : Permitted Y (rows_of b) start dest s (plan_of D P lab (take r path))

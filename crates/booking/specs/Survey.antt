@@ -1,6 +1,6 @@
 -- Map and book written to arrays and vetted there: what is found of the arrays holds of the map and the book.
-use Rattle.std.specs.Prelude.{ℕ, ◌≡◌, List, length}
-use Rattle.std.proofs.Common.{ap, subst, ◌∙◌}
+use Rattle.std.specs.Prelude.{ℕ, ◌≡◌, Result, List, length}
+use Rattle.std.proofs.Common.{subst}
 use Rattle.rules.specs.declared.Map.{Map}
 use Rattle.rules.specs.declared.Book.{Book}
 use Rattle.rules.specs.Map.{map_yard}
@@ -9,8 +9,8 @@ use Rattle.rules.specs.Gate.{Papers, BookGood, papers_of}
 use Rattle.rules.specs.GateLaws.{checked_as}
 use Rattle.flat.specs.Flat.{rows_in, yard_in, papers_in}
 use Rattle.search.specs.Lanes.{Lanes}
-use Rattle.vet.specs.declared.Verdict.{Verdict}
-use Rattle.vet.specs.Vetted.{verdict_number, verdict_row, Vetted}
+use Rattle.rules.specs.declared.Refusal.{Refusal}
+use Rattle.vet.specs.Vetted.{Vetted}
 use Rattle.flatten.specs.Maps.{PlacesFlat, LinksFlat}
 use Rattle.flatten.specs.Read.{BookRead, read_rows, read_true, read_counted}
 use Rattle.flatten.specs.Given.{given}
@@ -24,7 +24,7 @@ pub record Ready (b : Book) (C D F T H L : List ℕ) (n k : ℕ) (K X P S E I : 
   pub whole : b ≡ book_of (rows_of b) b.next_ticket
 
 -- what the gate says of them, the arrays being those of the map too where both are sound
-abbrev pub Surveyed : Map → Book → (C D F T H L K X P S E I : List ℕ) → Verdict → Type 0
+abbrev pub Surveyed : Map → Book → (C D F T H L K X P S E I : List ℕ) → Result ℕ Refusal → Type 0
 Surveyed m b C D F T H L K X P S E I v =
     Vetted (papers_of m b) (λ w. (yard_in C D m.place_count F T m.link_count ≡ map_yard m) × Ready b C D F T H L m.place_count m.link_count K X P S E I w) v
 
@@ -47,8 +47,8 @@ module _
             whole = book_of_rows b (read_counted B W.counted) lb;
           }
 
-      pub surveyed : {u v : Verdict} → u ≡ v → Vetted arrays (Lanes C D F T H L m.place_count m.link_count (rows_in K X count) count P S E I) v
-          → Surveyed m b C D F T H L K X P S E I u
-      surveyed e =
+      pub surveyed : {v : Result ℕ Refusal} → Vetted arrays (Lanes C D F T H L m.place_count m.link_count (rows_in K X count) count P S E I) v
+          → Surveyed m b C D F T H L K X P S E I v
+      surveyed =
           let same = given places links lp ll B in
-          checked_as same (λ n i _ h. (ap verdict_number e ∙ h.0, ap verdict_row e ∙ h.1)) (λ M W s. (s.0, e ∙ s.1, (same.yard M, ready W s.2)))
+          checked_as same (λ n i _ h. h) (λ M W s. (s.0, s.1, (same.yard M, ready W s.2)))

@@ -14,8 +14,7 @@ ghost use Rattle.planner.specs.Route.{PathFits};
 ghost use Rattle.ledger.specs.Inserting.{Inserting};
 ghost use Rattle.booking.specs.Survey.{Surveyed, Ready};
 
-use rules::{Book, Booked, Booking, Cancelled, Cancelling, Cursor, Issued, Map, Refusal};
-use vet::Verdict;
+use rules::{Book, Change, Cursor, Issued, Map, Refusal};
 
 // Map and book written to arrays and vetted.
 fn survey(
@@ -33,7 +32,7 @@ fn survey(
     start: &mut [u32; 1280],
     end: &mut [u32; 1280],
     first: &mut [u16; 257],
-) -> Verdict
+) -> Result<usize, Refusal>
     requires cap_len { (length cap.old ≡ 256) × (length dur.old ≡ 256) × (length from.old ≡ 1024) × (length to.old ≡ 1024) }
     requires head_len { (length head.old ≡ 256) × (length chain.old ≡ 1024) × ((p : ℕ) → at head.old p ≡ 0) }
     requires key_len { (length key.old ≡ 1024) × (length tail.old ≡ 1024) }
@@ -44,7 +43,7 @@ fn survey(
     flatten::flat_places(m, cap, dur);
     flatten::flat_links(m, from, to);
     let count = flatten::read_book(b, key, tail);
-    let found = vet::vet(
+    vet::vet(
         m.place_count,
         m.link_count,
         cap,
@@ -61,49 +60,40 @@ fn survey(
         end,
         place,
         first,
-    );
-    vet::judged(found)
+    )
 }
 
 // The rows of a path under a ticket put into the book, one after the other: the rows above a new one move up, the last first.
 fn enter_rows(
-    b: Book,
+    b: &mut Book,
     dur: &[u32; 256],
     place: &[u8; 1280],
     label: &[u32; 1280],
     path: &[u16; 1280],
     count: usize,
     ticket: u32,
-) -> Book
+)
     requires path_fits { PathFits dur.now place.now label.now path.now count }
-    requires inserting { Inserting (run_rows ticket (plan_of dur.now place.now label.now (take count path.now))) (rows_of b) b.next_ticket 0 b }
-    ensures { result ≡ book_of (insert_all (run_rows ticket (plan_of dur.now place.now label.now (take count path.now))) (rows_of b)) b.next_ticket }
+    requires inserting { Inserting (run_rows ticket (plan_of dur.now place.now label.now (take count path.now))) (rows_of b.old) b.old.next_ticket 0 b.old }
+    ensures { b.new ≡ book_of (insert_all (run_rows ticket (plan_of dur.now place.now label.now (take count path.now))) (rows_of b.old)) b.old.next_ticket }
 {
-    let mut out = b;
-    let mut k: usize = 0;
-    while k < count {
+    for k in 0..count {
         let r = planner::step_at(dur, place, label, path, count, k, ticket);
-        let p = r.place as u32;
-        let key = Cursor {
-            place: p,
-            entry: r.entry,
-            ticket: r.ticket,
-        };
-        let n = out.count;
+        let key = Cursor::from(r);
+        let n = b.count;
+        // Where this loop ends is where the row goes.
         let mut j = n;
         while 0 < j {
-            let x = out.rows[j - 1];
+            let x = b.rows[j - 1];
             if !key.before(x) {
                 break;
             }
-            out.rows[j] = x;
+            b.rows[j] = x;
             j -= 1;
         }
-        out.rows[j] = r;
-        out.count = n + 1;
-        k += 1;
+        b.rows[j] = r;
+        b.count = n + 1;
     }
-    out
 }
 
 // Booking where map and book are sound: 3, 4, 8, 5, 7, or the plan's rows under the next ticket.
@@ -123,76 +113,57 @@ fn book_sound(
     first: &[u16; 257],
     key: &[u64; 1024],
     tail: &[u32; 1024],
-    b: Book,
+    b: &mut Book,
     origin: u32,
     dest: u32,
     s: u32,
-) -> Booking
-    requires { Ready b cap.now dur.now from.now to.now head.now chain.now n k key.now tail.now place.now start.now end.now first.now windows }
-    ensures { BookSound (yard_in cap.now dur.now n from.now to.now k) (rows_of b) b origin dest s result }
+) -> Result<Issued, Refusal>
+    requires { Ready b.old cap.now dur.now from.now to.now head.now chain.now n k key.now tail.now place.now start.now end.now first.now windows }
+    ensures { BookSound (yard_in cap.now dur.now n from.now to.now k) (rows_of b.old) b.old origin dest s (record { book = b.new; answer = result }) }
 {
     let a = origin as usize;
     let z = dest as usize;
-    if a >= n {
-        return Booking {
-            book: b,
-            answer: Booked::Refused(Refusal::OffMap),
-        };
-    }
-    if z >= n {
-        return Booking {
-            book: b,
-            answer: Booked::Refused(Refusal::OffMap),
-        };
+    if a >= n || z >= n {
+        return Err(Refusal::OffMap);
     }
     if s > Map::DAY {
-        return Booking {
-            book: b,
-            answer: Booked::Refused(Refusal::OffDay),
-        };
+        return Err(Refusal::OffDay);
     }
     let ticket = b.next_ticket;
     if ticket >= Book::TICKETS {
-        return Booking {
-            book: b,
-            answer: Booked::Refused(Refusal::NoTickets),
-        };
+        return Err(Refusal::NoTickets);
     }
     let mut label = [86401u32; 1280];
     let mut path = [0u16; 1280];
     let rows = b.count;
-    let c = planner::route(
+    let Some(c) = planner::route(
         n, k, windows, cap, dur, from, to, head, chain, place, start, end, first, key, tail, rows,
         a, z, s, &mut label, &mut path,
-    );
-    if c == 0 {
-        return Booking {
-            book: b,
-            answer: Booked::Refused(Refusal::NoPlan),
-        };
-    }
+    ) else {
+        return Err(Refusal::NoPlan);
+    };
     if rows + c > Book::ROWS {
-        return Booking {
-            book: b,
-            answer: Booked::Refused(Refusal::FullBook),
-        };
+        return Err(Refusal::FullBook);
     }
     let last = planner::step_at(dur, place, &label, &path, c, c - 1, ticket);
-    let entered = enter_rows(b, dur, place, &label, &path, c, ticket);
-    let after = ledger::issued(entered);
-    Booking {
-        book: after,
-        answer: Booked::Done(Issued {
-            ticket: ticket,
-            arrival: last.exit,
-            count: c,
-        }),
-    }
+    enter_rows(b, dur, place, &label, &path, c, ticket);
+    *b = ledger::issued(*b);
+    Ok(Issued {
+        ticket,
+        arrival: last.exit,
+        count: c,
+    })
 }
 
-// The plan that planning gives, booked under the next ticket.
-pub fn book(m: Map, b: Book, start: u32, destination: u32, second: u32) -> Booking
-    ensures { BookIs m b start destination second result }
+// The plan that planning gives, booked in place: a refusal leaves the book as it was.
+fn book_in(
+    m: Map,
+    b: &mut Book,
+    start: u32,
+    destination: u32,
+    second: u32,
+) -> Result<Issued, Refusal>
+    ensures { BookIs m b.old start destination second (record { book = b.new; answer = result }) }
 {
     let mut cap = [0u8; 256];
     let mut dur = [0u32; 256];
@@ -206,62 +177,58 @@ pub fn book(m: Map, b: Book, start: u32, destination: u32, second: u32) -> Booki
     let mut begin = [0u32; 1280];
     let mut end = [0u32; 1280];
     let mut first = [0u16; 257];
-    let v = survey(
-        m, b, &mut cap, &mut dur, &mut from, &mut to, &mut head, &mut chain, &mut key, &mut tail,
+    let w = survey(
+        m, *b, &mut cap, &mut dur, &mut from, &mut to, &mut head, &mut chain, &mut key, &mut tail,
         &mut place, &mut begin, &mut end, &mut first,
-    );
-    match v {
-        Verdict::Refused(r) => Booking {
-            book: b,
-            answer: Booked::Refused(r),
-        },
-        Verdict::Sound(w) => book_sound(
-            m.place_count,
-            m.link_count,
-            w,
-            &cap,
-            &dur,
-            &from,
-            &to,
-            &head,
-            &chain,
-            &place,
-            &begin,
-            &end,
-            &first,
-            &key,
-            &tail,
-            b,
-            start,
-            destination,
-            second,
-        ),
-    }
+    )?;
+    book_sound(
+        m.place_count,
+        m.link_count,
+        w,
+        &cap,
+        &dur,
+        &from,
+        &to,
+        &head,
+        &chain,
+        &place,
+        &begin,
+        &end,
+        &first,
+        &key,
+        &tail,
+        b,
+        start,
+        destination,
+        second,
+    )
+}
+
+// The plan that planning gives, booked under the next ticket.
+pub fn book(m: Map, b: Book, start: u32, destination: u32, second: u32) -> Change<Issued>
+    ensures { BookIs m b start destination second result }
+{
+    let mut book = b;
+    let answer = book_in(m, &mut book, start, destination, second);
+    Change { book, answer }
 }
 
 // A ticket's rows taken out of a sound book.
-fn cancel_sound(b: Book, ticket: u32) -> Cancelling
-    requires { b.count ≤ row_limit }
-    ensures { CancelSound b ticket result }
+fn cancel_sound(b: &mut Book, ticket: u32) -> Result<usize, Refusal>
+    requires { b.old.count ≤ row_limit }
+    ensures { CancelSound b.old ticket (record { book = b.new; answer = result }) }
 {
-    let r = ledger::remove_ticket(b, ticket);
-    let c = r.count;
-    if c == 0 {
-        return Cancelling {
-            book: b,
-            answer: Cancelled::Refused(Refusal::UnknownTicket),
-        };
+    let r = ledger::remove_ticket(*b, ticket);
+    if r.count == 0 {
+        return Err(Refusal::UnknownTicket);
     }
-    let left = r.book;
-    Cancelling {
-        book: left,
-        answer: Cancelled::Done(c),
-    }
+    *b = r.book;
+    Ok(r.count)
 }
 
-// A ticket's rows taken out of the book.
-pub fn cancel(m: Map, b: Book, ticket: u32) -> Cancelling
-    ensures { CancelIs m b ticket result }
+// A ticket's rows taken out in place: a refusal leaves the book as it was.
+fn cancel_in(m: Map, b: &mut Book, ticket: u32) -> Result<usize, Refusal>
+    ensures { CancelIs m b.old ticket (record { book = b.new; answer = result }) }
 {
     let mut cap = [0u8; 256];
     let mut dur = [0u32; 256];
@@ -275,15 +242,18 @@ pub fn cancel(m: Map, b: Book, ticket: u32) -> Cancelling
     let mut start = [0u32; 1280];
     let mut end = [0u32; 1280];
     let mut first = [0u16; 257];
-    let v = survey(
-        m, b, &mut cap, &mut dur, &mut from, &mut to, &mut head, &mut chain, &mut key, &mut tail,
+    survey(
+        m, *b, &mut cap, &mut dur, &mut from, &mut to, &mut head, &mut chain, &mut key, &mut tail,
         &mut place, &mut start, &mut end, &mut first,
-    );
-    match v {
-        Verdict::Refused(r) => Cancelling {
-            book: b,
-            answer: Cancelled::Refused(r),
-        },
-        Verdict::Sound(_) => cancel_sound(b, ticket),
-    }
+    )?;
+    cancel_sound(b, ticket)
+}
+
+// A ticket's rows taken out of the book.
+pub fn cancel(m: Map, b: Book, ticket: u32) -> Change<usize>
+    ensures { CancelIs m b ticket result }
+{
+    let mut book = b;
+    let answer = cancel_in(m, &mut book, ticket);
+    Change { book, answer }
 }

@@ -6,7 +6,7 @@ ghost use Rattle.std.specs.Prelude.{◌*◌, ◌≤◌, ◌<◌};
 ghost use Rattle.rules.specs.Limits.{page_limit};
 ghost use Rattle.rules.specs.Bytes.{row_size};
 
-use rules::{Book, Booked, Cancelled, Cursor, Link, Map, Paged, Place, Planned, Refusal, Row};
+use rules::{Book, Cursor, InRows, Link, Map, Place, Refusal, Row};
 use std::io;
 
 // What every byte of the caller's list holds before a call.
@@ -34,10 +34,7 @@ fn with_place(m: Map, p: usize, capacity: u8, duration: u16) -> Map
     requires { p < 256 }
 {
     let mut n = m;
-    n.places[p] = Place {
-        capacity: capacity,
-        duration: duration,
-    };
+    n.places[p] = Place { capacity, duration };
     n
 }
 
@@ -45,7 +42,7 @@ fn with_link(m: Map, i: usize, from: u8, to: u8) -> Map
     requires { i < 1024 }
 {
     let mut n = m;
-    n.links[i] = Link { from: from, to: to };
+    n.links[i] = Link { from, to };
     n
 }
 
@@ -58,16 +55,9 @@ fn with_counts(m: Map, places: usize, links: usize) -> Map {
 
 // "place 0 capacity 2 duration 10; 1, 2, 3 capacity 1, durations 20, 30, 10", with the links 0 to 1, 1 to 3, 0 to 2, 2 to 3, 3 to 1, 1 to 0.
 fn barn() -> Map {
-    let no_place = Place {
-        capacity: 0,
-        duration: 0,
-    };
-    let places = [no_place; Map::PLACES];
-    let no_link = Link { from: 0, to: 0 };
-    let links = [no_link; Map::LINKS];
     let mut m = Map {
-        places: places,
-        links: links,
+        places: [Place::default(); Map::PLACES],
+        links: [Link::default(); Map::LINKS],
         place_count: 4,
         link_count: 6,
     };
@@ -108,19 +98,15 @@ fn wide() -> Map {
         capacity: 1,
         duration: 10,
     };
-    let places = [place; Map::PLACES];
-    let no_link = Link { from: 0, to: 0 };
-    let mut links = [no_link; Map::LINKS];
-    let mut i: usize = 0;
-    while i < 1024 {
+    let mut links = [Link::default(); Map::LINKS];
+    for i in 0..Map::LINKS {
         let from = (i / 4) as u8;
         let to = ((i / 4 + i % 4 + 1) % 256) as u8;
-        links[i] = Link { from: from, to: to };
-        i += 1;
+        links[i] = Link { from, to };
     }
     Map {
-        places: places,
-        links: links,
+        places: [place; Map::PLACES],
+        links,
         place_count: 256,
         link_count: 1024,
     }
@@ -145,10 +131,8 @@ fn counted(b: Book, count: usize, next_ticket: u32) -> Book {
 
 // No rows.
 fn empty() -> Book {
-    let none = Row::none();
-    let rows = [none; Book::ROWS];
     Book {
-        rows: rows,
+        rows: [Row::none(); Book::ROWS],
         count: 0,
         next_ticket: 1,
     }
@@ -215,12 +199,8 @@ fn crowd(count: u32) -> Book
     requires { count ≤ 1024 }
 {
     let mut b = empty();
-    let mut i: u32 = 0;
-    while i < count {
-        let r = Row::new(3, 10 * i, i + 1, 10 * i + 10, 3);
-        let at = i as usize;
-        b.rows[at] = r;
-        i += 1;
+    for i in 0..count {
+        b.rows[i as usize] = Row::new(3, 10 * i, i + 1, 10 * i + 10, 3);
     }
     b.count = count as usize;
     b.next_ticket = count + 1;
@@ -229,52 +209,9 @@ fn crowd(count: u32) -> Book
 
 // ---- memory after a call
 
-fn same_row(x: Row, y: Row) -> bool {
-    if x.place != y.place {
-        return false;
-    }
-    if x.entry != y.entry {
-        return false;
-    }
-    if x.ticket != y.ticket {
-        return false;
-    }
-    if x.exit != y.exit {
-        return false;
-    }
-    x.next == y.next
-}
-
-// Count, next ticket and every slot are equal.
-fn same_book(a: Book, b: Book) -> bool {
-    if a.count != b.count {
-        return false;
-    }
-    if a.next_ticket != b.next_ticket {
-        return false;
-    }
-    let mut i: usize = 0;
-    while i < 1024 {
-        let x = a.rows[i];
-        let y = b.rows[i];
-        if !same_row(x, y) {
-            return false;
-        }
-        i += 1;
-    }
-    true
-}
-
 // The list's bytes from this one on are as they were.
 fn marked_from(list: &[u8; ROOM], from: usize) -> bool {
-    let mut i = from;
-    while i < ROOM {
-        if list[i] != MARK {
-            return false;
-        }
-        i += 1;
-    }
-    true
+    list.iter().skip(from).all(|x| *x == MARK)
 }
 
 // ---- answers
@@ -286,45 +223,13 @@ struct Said {
     count: usize,
 }
 
-fn done(count: usize) -> Said {
+fn said_by<T: InRows>(answer: Result<T, Refusal>) -> Said {
     Said {
-        number: 0,
-        count: count,
-    }
-}
-
-fn not_done(r: Refusal) -> Said {
-    Said {
-        number: r.number(),
-        count: r.row(),
-    }
-}
-
-fn of_plan(a: Planned) -> Said {
-    match a {
-        Planned::Done(t) => done(t.count),
-        Planned::Refused(r) => not_done(r),
-    }
-}
-
-fn of_booking(a: Booked) -> Said {
-    match a {
-        Booked::Done(i) => done(i.count),
-        Booked::Refused(r) => not_done(r),
-    }
-}
-
-fn of_cancelling(a: Cancelled) -> Said {
-    match a {
-        Cancelled::Done(n) => done(n),
-        Cancelled::Refused(r) => not_done(r),
-    }
-}
-
-fn of_page(a: Paged) -> Said {
-    match a {
-        Paged::Done(s) => done(s.count),
-        Paged::Refused(r) => not_done(r),
+        number: rules::number_of(answer),
+        count: match answer {
+            Ok(done) => done.rows(),
+            Err(r) => r.row(),
+        },
     }
 }
 
@@ -359,10 +264,7 @@ fn line(
 
 // The number and the count are those asked for.
 fn says(said: Said, number: u8, count: usize) -> bool {
-    if said.number != number {
-        return false;
-    }
-    said.count == count
+    said.number == number && said.count == count
 }
 
 // The rows written to the list: none beside a refusal.
@@ -380,10 +282,7 @@ fn written(number: u8, count: usize) -> usize
 fn list_right(list: &[u8; ROOM], rows: usize) -> bool
     requires { rows ≤ 64 }
 {
-    if !marked_from(list, Row::BYTES * rows) {
-        return false;
-    }
-    marked_from(list, 0) == (rows == 0)
+    marked_from(list, Row::BYTES * rows) && marked_from(list, 0) == (rows == 0)
 }
 
 // ---- the calls, each with the number and the count that it must answer
@@ -406,12 +305,9 @@ fn try_plan(
 {
     let mut list = [MARK; ROOM];
     let a = planning::plan(m, b, start, destination, second, &mut list[..room]);
-    let said = of_plan(a);
+    let said = said_by(a);
     let unchanged = marked_from(&list, 0);
-    let mut right = list_right(&list, written(number, count));
-    if !says(said, number, count) {
-        right = false;
-    }
+    let right = list_right(&list, written(number, count)) && says(said, number, count);
     line(rt, b"plan", what, said, unchanged, right)
 }
 
@@ -434,17 +330,14 @@ fn try_page(
 {
     let mut list = [MARK; ROOM];
     let c = Cursor {
-        place: place,
-        entry: entry,
-        ticket: ticket,
+        place,
+        entry,
+        ticket,
     };
     let a = paging::page(m, b, size, c, &mut list[..room]);
-    let said = of_page(a);
+    let said = said_by(a);
     let unchanged = marked_from(&list, 0);
-    let mut right = list_right(&list, written(number, count));
-    if !says(said, number, count) {
-        right = false;
-    }
+    let right = list_right(&list, written(number, count)) && says(said, number, count);
     line(rt, b"page", what, said, unchanged, right)
 }
 
@@ -462,14 +355,9 @@ fn try_book(
     after: Book,
 ) -> io::Result<()> {
     let r = booking::book(m, b, start, destination, second);
-    let left = r.book;
-    let a = r.answer;
-    let said = of_booking(a);
-    let mut right = same_book(left, after);
-    if !says(said, number, count) {
-        right = false;
-    }
-    line(rt, b"book", what, said, same_book(left, b), right)
+    let said = said_by(r.answer);
+    let right = r.book == after && says(said, number, count);
+    line(rt, b"book", what, said, r.book == b, right)
 }
 
 // A cancellation, and the book that it must leave.
@@ -484,14 +372,9 @@ fn try_cancel(
     after: Book,
 ) -> io::Result<()> {
     let r = booking::cancel(m, b, ticket);
-    let left = r.book;
-    let a = r.answer;
-    let said = of_cancelling(a);
-    let mut right = same_book(left, after);
-    if !says(said, number, count) {
-        right = false;
-    }
-    line(rt, b"cancel", what, said, same_book(left, b), right)
+    let said = said_by(r.answer);
+    let right = r.book == after && says(said, number, count);
+    line(rt, b"cancel", what, said, r.book == b, right)
 }
 
 // All four calls, each refused with this number and row.

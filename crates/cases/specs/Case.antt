@@ -1,6 +1,6 @@
 -- What a line of a table of cases means on a map: that the calls' contracts hold of the document's answer, and for planning also what the contract
 -- says of the plan. A test of each line is proved to give its meaning, for any line at all.
-use Rattle.std.specs.Prelude.{ℕ, ◌+◌, ◌≤◌, ◌<◌, ◌≡◌, refl, Bool, true, ◌&&◌, not, eqb, leb, ltb}
+use Rattle.std.specs.Prelude.{ℕ, ◌+◌, ◌≤◌, ◌<◌, ◌≡◌, refl, Bool, true, ◌&&◌, not, eqb, leb, ltb, Ok, Err}
 use Rattle.std.proofs.Math.Path.{sym, ap, subst}
 use Rattle.std.proofs.Common.{subst₂, ◌∙◌, inl, arith}
 use Rattle.std.proofs.Math.Logic.{inr}
@@ -13,13 +13,6 @@ use Rattle.rules.specs.declared.Row.{Row}
 use Rattle.rules.specs.declared.Cursor.{Cursor}
 use Rattle.rules.specs.declared.Refusal.{Refusal}
 use Rattle.rules.specs.declared.Refusal.TheVariants.{OffMap, OffDay, NoPlan}
-use Rattle.rules.specs.declared.Planned.{Planned}
-use Rattle.rules.specs.declared.Planned.TheVariants.{Done, Refused}
-use Rattle.rules.specs.declared.Booking.{Booking}
-use Rattle.rules.specs.declared.Booked.TheVariants.{Done as Issues}
-use Rattle.rules.specs.declared.Cancelled.TheVariants.{Done as Removes}
-use Rattle.rules.specs.declared.Paged.{Paged}
-use Rattle.rules.specs.declared.Paged.TheVariants.{Done as Shows}
 use Rattle.rules.specs.Limits.{day, row_limit, ticket_limit, page_limit}
 use Rattle.rules.specs.Map.{linked, Yard, map_yard}
 use Rattle.rules.specs.Rows.{Key, no_row, lessb, covers, load, keep, insert_all}
@@ -30,7 +23,7 @@ use Rattle.rules.specs.Book.{WellFormed, GoodBook, rows_of, book_of, of_ticket, 
 use Rattle.rules.specs.Bytes.{records, written}
 use Rattle.rules.specs.Gate.{papers_of, Checked}
 use Rattle.rules.specs.Gate.Checked.{sound}
-use Rattle.rules.specs.Answer.{PlanSound, PlanIs, BookSound, BookIs, CancelIs, Known, PageSound, PageIs, CursorFits}
+use Rattle.rules.specs.Answer.{Planned, Booking, Paged, PlanSound, PlanIs, BookSound, BookIs, CancelIs, Known, PageSound, PageIs, CursorFits}
 use Rattle.keeping.specs.Books.{rows_of_book, good_book}
 use Rattle.keeping.specs.Changes.{mem_keep}
 use Rattle.cases.specs.Checks.{every, holds, all_b, all_out, under, lex_b, same_plan, same_rows, same_rows_lem, answers_agree, same_answer}
@@ -89,7 +82,7 @@ module _ (G : Barn) where
     pub answer : Answered G h start dest s plan
     pub arrives : arrival plan ≡ a
     pub says : (was : List ℕ) → length plan ≤ records was
-        → PlanIs (arrays G) (book_now h) start dest s was (written (run_rows 0 plan) was) (Done (record { arrival = a; count = length plan }))
+        → PlanIs (arrays G) (book_now h) start dest s was (written (run_rows 0 plan) was) (Ok (record { arrival = a; count = length plan }))
 
   pub record Permits (h : Past) (start dest s : ℕ) (plan : List Stay) (a : ℕ) : Type 0 where
     pub permitted : Permitted Y (rows_now h) start dest s plan
@@ -104,23 +97,23 @@ module _ (G : Barn) where
   pub record Refuses (h : Past) (start dest s : ℕ) (r : Reason) : Type 0 where
     pub formed : WellFormed Y (rows_now h) (next_ticket h)
     pub why : Why h start dest s r
-    pub says : (was : List ℕ) → PlanIs (arrays G) (book_now h) start dest s was was (Refused (refusal r))
+    pub says : (was : List ℕ) → PlanIs (arrays G) (book_now h) start dest s was was (Err (refusal r))
 
   -- the book after is the book of the longer past
   pub record Books (h : Past) (start dest s : ℕ) (plan : List Stay) (k a : ℕ) : Type 0 where
     pub answer : Answered G h start dest s plan
     pub formed : WellFormed Y (rows_now (booked h start dest s plan)) (k + 1)
-    pub says : BookIs (arrays G) (book_now h) start dest s (record { book = book_now (booked h start dest s plan); answer = Issues (record { ticket = k; arrival = a; count = length plan }) })
+    pub says : BookIs (arrays G) (book_now h) start dest s (record { book = book_now (booked h start dest s plan); answer = Ok (record { ticket = k; arrival = a; count = length plan }) })
 
   pub record Cancels (h : Past) (k n : ℕ) : Type 0 where
     pub formed : WellFormed Y (rows_now (cancelled h k)) (next_ticket h)
-    pub says : CancelIs (arrays G) (book_now h) k (record { book = book_now (cancelled h k); answer = Removes n })
+    pub says : CancelIs (arrays G) (book_now h) k (record { book = book_now (cancelled h k); answer = Ok n })
 
   pub record Pages (h : Past) (size : ℕ) (k : Key) (rows : List Row) (more : Bool) : Type 0 where
     pub formed : WellFormed Y (rows_now h) (next_ticket h)
     pub shows : page_rows size k (rows_now h) ≡ rows
     pub says : (was : List ℕ) → size ≤ records was
-        → PageIs (arrays G) (book_now h) size k was (written rows was) (Shows (record { count = length rows; more = more; cursor = cursor_of (last_key k rows) }))
+        → PageIs (arrays G) (book_now h) size k was (written rows was) (Ok (record { count = length rows; more = more; cursor = cursor_of (last_key k rows) }))
 
   abbrev pub Means : Case → Type 0
   Means (plans h start dest s plan a) = Plans h start dest s plan a

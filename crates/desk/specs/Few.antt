@@ -4,23 +4,21 @@ use Rattle.std.specs.Prelude.{ℕ, ◌+◌, ◌≤◌, ◌<◌, ◌≡◌, false
 use Rattle.std.proofs.Common.{ap₂, arith, length-take}
 use Rattle.std.proofs.Math.Nat.{min-le_left}
 use Rattle.rules.specs.declared.Row.{Row}
-use Rattle.rules.specs.declared.Planned.{Planned}
-use Rattle.rules.specs.declared.Paged.{Paged}
 use Rattle.rules.specs.Limits.{row_limit, page_limit}
 use Rattle.rules.specs.Rows.{Key, first_key}
 use Rattle.rules.specs.Page.{after, page_rows}
 use Rattle.rules.specs.Bytes.{records}
 use Rattle.rules.specs.Gate.{Papers}
 use Rattle.rules.specs.GateLaws.{unless, checked}
-use Rattle.rules.specs.Answer.{rows_done, planned_number, planned_count, planned_rows, Planning, PlanRefused, PlanSays, paged_number, paged_count, paged_rows, PagingIs, PageRefused, PageSays}
+use Rattle.rules.specs.Answer.{Planned, Paged, rows_done, answer_number, planned_count, planned_rows, Planning, PlanRefused, PlanSays, paged_count, paged_rows, PagingIs, PageRefused, PageSays}
 use Rattle.rules.specs.AnswerLaws.{none_done}
 
 module _ {A : Type 0} {was out : List A} where
   pub no_stays : {r : Planned} (n : ℕ) {i : ℕ} → 0 < n → Planning n 0 i was out r → planned_rows r ≡ 0
-  no_stays {r} n h x = none_done (planned_number r) (planned_count r) (omega (arith, x.code))
+  no_stays {r} n h x = none_done (answer_number r) (planned_count r) (omega (arith, x.code))
 
   pub no_rows : {r : Paged} (n : ℕ) {i : ℕ} → 0 < n → PagingIs n i false first_key was out r → paged_rows r ≡ 0
-  no_rows {r} n h x = none_done (paged_number r) (paged_count r) (omega (arith, x.code))
+  no_rows {r} n h x = none_done (answer_number r) (paged_count r) (omega (arith, x.code))
 
 pub page_short : (size : ℕ) (k : Key) (rows : List Row) → length (page_rows size k rows) ≤ size
 page_short size k rows = omega (arith, length-take size (after k rows), min-le_left size (length (after k rows)))

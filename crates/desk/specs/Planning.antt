@@ -1,9 +1,8 @@
 -- What the planning call answers at each of its ends.
-use Rattle.std.specs.Prelude.{ℕ, suc, ◌-◌, ◌≤◌, ◌<◌, ◌≡◌, refl, List, length, take}
+use Rattle.std.specs.Prelude.{ℕ, suc, ◌-◌, ◌≤◌, ◌<◌, ◌≡◌, refl, List, length, take, Option, Some, Ok, Err}
 use Rattle.std.proofs.Common.{sym, ap, ◌∙◌, inl, inr, arith, length-take-le, get_or-take}
 use Rattle.laws.specs.Lists.{at}
 use Rattle.rules.specs.declared.Row.{Row}
-use Rattle.rules.specs.declared.Planned.TheVariants.{Done, Refused}
 use Rattle.rules.specs.declared.Refusal.{Refusal}
 use Rattle.rules.specs.declared.Refusal.TheVariants.{OffMap, OffDay, NoPlan, ShortList}
 use Rattle.rules.specs.Map.{Yard}
@@ -21,7 +20,7 @@ use Rattle.planner.specs.Route.{Routed, PathFits, plan_long, last_arrives, row_l
 
 -- a route's path is fit to be written
 pub route_fits : {Y : Yard} {rows : List Row} {start dest s n k m : ℕ} {D F T H N P S E I lab path : List ℕ} {r : ℕ} → Ground n k m D F T H N P S E I
-    → Routed Y rows start dest s m D P S E lab path r → PathFits D P lab path r
+    → Routed Y rows start dest s m D P S E lab path (Some r) → PathFits D P lab path r
 route_fits {D = D} {P = P} {lab = lab} {path = path} {r = r} G R =
     let l : length (take r path) ≡ r = length-take-le r path (omega (arith, R.few, R.long)) in
     record {
@@ -41,26 +40,26 @@ pub some : (Y : Yard) (rows : List Row) (start dest s : ℕ) → YardRules Y →
 some Y rows start dest s R h booked {plan} C = (plan, (chosen_best Y rows start dest s R.from_on h booked C).0)
 
 module _ {Y : Yard} {rows : List Row} {start dest s : ℕ} {was out : List ℕ} where
-  pub plan_off_map : ((start < Y.places) × (dest < Y.places) → ⊥) → was ≡ out → PlanSound Y rows start dest s was out (Refused OffMap)
+  pub plan_off_map : ((start < Y.places) × (dest < Y.places) → ⊥) → was ≡ out → PlanSound Y rows start dest s was out (Err OffMap)
   plan_off_map h e = inl (h, record { code = refl; arrives = refl; counts = refl; holds = sym e })
 
   module _ (on : (start < Y.places) × (dest < Y.places)) where
-    pub plan_off_day : 86400 < s → was ≡ out → PlanSound Y rows start dest s was out (Refused OffDay)
+    pub plan_off_day : 86400 < s → was ≡ out → PlanSound Y rows start dest s was out (Err OffDay)
     plan_off_day h e = inr (on, inl (λ k. omega arith, record { code = refl; arrives = refl; counts = refl; holds = sym e }))
 
     module _ (day : s ≤ 86400) where
-      pub plan_none : ((plan : List Stay) → Permitted Y rows start dest s plan → ⊥) → was ≡ out → PlanSound Y rows start dest s was out (Refused NoPlan)
+      pub plan_none : ((plan : List Stay) → Permitted Y rows start dest s plan → ⊥) → was ≡ out → PlanSound Y rows start dest s was out (Err NoPlan)
       plan_none h e = inr (on, inr (day, inl (λ x. h x.0 x.1, record { code = refl; arrives = refl; counts = refl; holds = sym e })))
 
       module _ (rules : YardRules Y) (booked : (p u : ℕ) → p < Y.places → load rows p u ≤ Y.cap p) {plan : List Stay} (C : Chosen Y rows start dest s plan) where
-        pub plan_short : records was < length plan → was ≡ out → PlanSound Y rows start dest s was out (Refused ShortList)
+        pub plan_short : records was < length plan → was ≡ out → PlanSound Y rows start dest s was out (Err ShortList)
         plan_short h e = inr (on, inr (day, inr (some Y rows start dest s rules on.1 booked C, (plan, C, inl (λ k. omega arith, record { code = refl; arrives = refl; counts = refl; holds = sym e })))))
 
-        pub plan_done : {a c : ℕ} → length plan ≤ records was → arrival plan ≡ a → length plan ≡ c → out ≡ written (run_rows 0 plan) was → PlanSound Y rows start dest s was out (Done (record { arrival = a; count = c }))
+        pub plan_done : {a c : ℕ} → length plan ≤ records was → arrival plan ≡ a → length plan ≡ c → out ≡ written (run_rows 0 plan) was → PlanSound Y rows start dest s was out (Ok (record { arrival = a; count = c }))
         plan_done h ea ec eo = inr (on, inr (day, inr (some Y rows start dest s rules on.1 booked C, (plan, C, inr (h, record { code = refl; arrives = sym ea; counts = sym ec; holds = eo })))))
 
 -- refused at the gate
-pub plan_refused : {was out : List ℕ} {x : Refusal} → was ≡ out → (n i : ℕ) → number x ≡ n → fault_row x ≡ i → Planning n 0 i was out (Refused x)
+pub plan_refused : {was out : List ℕ} {x : Refusal} → was ≡ out → (n i : ℕ) → number x ≡ n → fault_row x ≡ i → Planning n 0 i was out (Err x)
 plan_refused e n i h k = record { code = h; arrives = refl; counts = k; holds = sym e }
 
 -- the number of stays of a route

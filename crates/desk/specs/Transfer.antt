@@ -2,13 +2,11 @@
 use Rattle.std.specs.Prelude.{ℕ, List}
 use Rattle.std.proofs.Common.{subst₂}
 use Rattle.rules.specs.declared.Row.{Row}
-use Rattle.rules.specs.declared.Planned.{Planned}
-use Rattle.rules.specs.declared.Paged.{Paged}
 use Rattle.rules.specs.Map.{Yard}
 use Rattle.rules.specs.Rows.{Key}
 use Rattle.rules.specs.Gate.{Papers}
 use Rattle.rules.specs.GateLaws.{SamePapers, checked_as}
-use Rattle.rules.specs.Answer.{PlanSound, PlanSays, PageSound, PageSays}
+use Rattle.rules.specs.Answer.{Planned, Paged, PlanSound, PlanSays, PageSound, PageSays}
 
 module _ {g h : Papers} (S : SamePapers g h) {was out : List ℕ} where
   pub plan_as : {start dest s : ℕ} {r : Planned} → PlanSays g start dest s was out r → PlanSays h start dest s was out r

@@ -7,8 +7,7 @@ ghost use Rattle.rules.specs.Answer.{PlanSound, PlanSays};
 ghost use Rattle.flat.specs.Flat.{rows_in, yard_in, papers_in, Packed};
 ghost use Rattle.search.specs.Lanes.{Lanes};
 
-use rules::{Map, Planned, Refusal, Row, Trip};
-use vet::Verdict;
+use rules::{Map, Refusal, Row, Trip};
 
 // Planning where map and book are sound: 3, 4, 5, 6, or the plan.
 fn plan_sound(
@@ -32,37 +31,33 @@ fn plan_sound(
     dest: u32,
     s: u32,
     out: &mut [u8],
-) -> Planned
+) -> Result<Trip, Refusal>
     requires lanes { Lanes cap.now dur.now from.now to.now head.now chain.now n k (rows_in key.now tail.now count) count place.now start.now end.now first.now windows }
     requires by_index { (p t : ℕ) → p < (yard_in cap.now dur.now n from.now to.now k).places → load (rows_in key.now tail.now count) p t ≤ (yard_in cap.now dur.now n from.now to.now k).cap p }
     ensures { PlanSound (yard_in cap.now dur.now n from.now to.now k) (rows_in key.now tail.now count) origin dest s out.old out.new result }
 {
     let a = origin as usize;
     let z = dest as usize;
-    if a >= n {
-        return Planned::Refused(Refusal::OffMap);
-    }
-    if z >= n {
-        return Planned::Refused(Refusal::OffMap);
+    if a >= n || z >= n {
+        return Err(Refusal::OffMap);
     }
     if s > Map::DAY {
-        return Planned::Refused(Refusal::OffDay);
+        return Err(Refusal::OffDay);
     }
     let mut label = [86401u32; 1280];
     let mut path = [0u16; 1280];
-    let c = planner::route(
+    let Some(c) = planner::route(
         n, k, windows, cap, dur, from, to, head, chain, place, start, end, first, key, tail, count,
         a, z, s, &mut label, &mut path,
-    );
-    if c == 0 {
-        return Planned::Refused(Refusal::NoPlan);
-    }
+    ) else {
+        return Err(Refusal::NoPlan);
+    };
     if out.len() / Row::BYTES < c {
-        return Planned::Refused(Refusal::ShortList);
+        return Err(Refusal::ShortList);
     }
     planner::write_plan(dur, place, &label, &path, c, out);
     let last = planner::step_at(dur, place, &label, &path, c, c - 1, 0);
-    Planned::Done(Trip {
+    Ok(Trip {
         arrival: last.exit,
         count: c,
     })
@@ -84,7 +79,7 @@ pub fn plan_flat(
     dest: u32,
     s: u32,
     out: &mut [u8],
-) -> Planned
+) -> Result<Trip, Refusal>
     requires { Packed key.now }
     ensures { PlanSays (papers_in cap.now dur.now from.now to.now n k key.now tail.now count next_ticket) origin dest s out.old out.new result }
 {
@@ -94,7 +89,7 @@ pub fn plan_flat(
     let mut start = [0u32; 1280];
     let mut end = [0u32; 1280];
     let mut first = [0u16; 257];
-    let found = vet::vet(
+    let w = vet::vet(
         n,
         k,
         cap,
@@ -111,13 +106,9 @@ pub fn plan_flat(
         &mut end,
         &mut place,
         &mut first,
-    );
-    let v = vet::judged(found);
-    match v {
-        Verdict::Refused(r) => Planned::Refused(r),
-        Verdict::Sound(w) => plan_sound(
-            n, k, w, cap, dur, from, to, &head, &chain, &place, &start, &end, &first, key, tail,
-            count, origin, dest, s, out,
-        ),
-    }
+    )?;
+    plan_sound(
+        n, k, w, cap, dur, from, to, &head, &chain, &place, &start, &end, &first, key, tail, count,
+        origin, dest, s, out,
+    )
 }

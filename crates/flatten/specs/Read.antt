@@ -20,9 +20,6 @@ module _ {b : Book} {K X : List ℕ} where
   pub read_all : BookFlat b K X true → BookRead b K X b.count
   read_all F = record { read = true; flat = F; whole = λ _. refl; none = λ q. absurd (not_both refl q) }
 
-  pub read_none : BookFlat b K X false → BookRead b K X 1025
-  read_none F = record { read = false; flat = F; whole = λ q. absurd (not_both q refl); none = λ _. refl }
-
 module _ {b : Book} {K X : List ℕ} {count : ℕ} (R : BookRead b K X count) where
   pub read_rows : R.read ≡ true → rows_in K X count ≡ rows_of b
   read_rows t = ap (rows_in K X) (R.whole t) ∙ R.flat.rows t

@@ -4,11 +4,10 @@
 ghost use Rattle.std.specs.Prelude.{◌≡◌, ℕ, ◌<◌, length};
 ghost use Rattle.laws.specs.Lists.{at};
 ghost use Rattle.laws.specs.Tests.{Decides};
-ghost use Rattle.rules.specs.Rows.{no_row};
 ghost use Rattle.flat.specs.Flat.{key_of};
 ghost use Rattle.flatten.specs.Maps.{PlacesFlat, LinksFlat};
 ghost use Rattle.flatten.specs.Read.{BookRead};
-ghost use Rattle.flatten.specs.Books.{InRange};
+ghost use Rattle.flatten.specs.Books.{InRange, Unused};
 
 use rules::{Book, Map, Row};
 
@@ -18,12 +17,9 @@ pub fn flat_places(m: Map, cap: &mut [u8; 256], dur: &mut [u32; 256])
     requires dur_len { length dur.old ≡ 256 }
     ensures { PlacesFlat m cap.new dur.new }
 {
-    let mut p = 0;
-    while p < Map::PLACES {
-        let place = m.places[p];
+    for (p, place) in m.places.iter().enumerate() {
         cap[p] = place.capacity;
-        dur[p] = place.duration as u32;
-        p += 1;
+        dur[p] = u32::from(place.duration);
     }
 }
 
@@ -33,12 +29,9 @@ pub fn flat_links(m: Map, from: &mut [u8; 1024], to: &mut [u8; 1024])
     requires to_len { length to.old ≡ 1024 }
     ensures { LinksFlat m from.new to.new }
 {
-    let mut j = 0;
-    while j < Map::LINKS {
-        let link = m.links[j];
+    for (j, link) in m.links.iter().enumerate() {
         from[j] = link.from;
         to[j] = link.to;
-        j += 1;
     }
 }
 
@@ -46,42 +39,25 @@ pub fn flat_links(m: Map, from: &mut [u8; 1024], to: &mut [u8; 1024])
 fn row_in_range(r: Row) -> bool
     ensures { Decides result (InRange r) }
 {
-    if r.entry > Map::DAY {
-        return false;
-    }
-    if r.exit > Map::DAY {
-        return false;
-    }
-    r.ticket < Book::TICKETS
+    r.entry <= Map::DAY && r.exit <= Map::DAY && r.ticket < Book::TICKETS
 }
 
 // a row's key as one number, and that its place is a byte
 fn row_key(r: Row) -> u64
     ensures { (result ≡ key_of r.place r.entry r.ticket) × (r.place < 256) }
 {
-    (r.place as u64) * flat::PLACE + (r.entry as u64) * flat::SECOND + (r.ticket as u64)
+    u64::from(r.place) * flat::PLACE + u64::from(r.entry) * flat::SECOND + u64::from(r.ticket)
 }
 
-// all fields zero
-fn is_zero(r: Row) -> bool
-    ensures { Decides result (r ≡ no_row) }
+// slots with all fields zero
+fn are_unused(rows: &[Row]) -> bool
+    ensures { Decides result (Unused rows.now) }
 {
-    if r.place != 0 {
-        return false;
-    }
-    if r.entry != 0 {
-        return false;
-    }
-    if r.ticket != 0 {
-        return false;
-    }
-    if r.exit != 0 {
-        return false;
-    }
-    r.next == 0
+    rows.iter().all(|r| *r == Row::none())
 }
 
 // The book's rows in the arrays: their count, and 1,025, which no book has, where the book is not one.
+// A count, and no Option: refusals ask the map first, so an unread book is handed on as a count that no book has.
 pub fn read_book(b: Book, key: &mut [u64; 1024], tail: &mut [u32; 1024]) -> usize
     requires key_len { length key.old ≡ 1024 }
     requires tail_len { length tail.old ≡ 1024 }
@@ -92,22 +68,15 @@ pub fn read_book(b: Book, key: &mut [u64; 1024], tail: &mut [u32; 1024]) -> usiz
     if n > Book::ROWS {
         return Book::UNREAD;
     }
-    let mut i = 0;
-    while i < n {
-        let r = b.rows[i];
-        if !row_in_range(r) {
+    for (i, r) in b.rows[..n].iter().enumerate() {
+        if !row_in_range(*r) {
             return Book::UNREAD;
         }
-        key[i] = row_key(r);
+        key[i] = row_key(*r);
         tail[i] = flat::tail_of(r.exit, r.next);
-        i += 1;
     }
-    while i < Book::ROWS {
-        let r = b.rows[i];
-        if !is_zero(r) {
-            return Book::UNREAD;
-        }
-        i += 1;
+    if !are_unused(&b.rows[n..]) {
+        return Book::UNREAD;
     }
     n
 }

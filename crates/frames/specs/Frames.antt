@@ -4,15 +4,11 @@ use Rattle.std.proofs.Math.Path.{refl}
 use Rattle.std.proofs.Math.Bool.{false}
 use Rattle.std.proofs.Common.{inl, inr, append-nil, arith, length-append}
 use Rattle.rules.specs.declared.State.{State}
-use Rattle.rules.specs.declared.Planned.{Planned}
-use Rattle.rules.specs.declared.Booking.{Booking}
-use Rattle.rules.specs.declared.Cancelling.{Cancelling}
-use Rattle.rules.specs.declared.Paged.{Paged}
 use Rattle.rules.specs.Limits.{place_limit, link_limit, plan_limit}
 use Rattle.rules.specs.Rows.{bit}
 use Rattle.rules.specs.Bytes.{byte_at, num2, num3, bytes2, bytes3, place_in, link_in, row_size, list_size, answer_room}
-use Rattle.rules.specs.Answer.{PlanIs, BookIs, CancelIs, PageIs, planned_number, planned_arrival, planned_count, planned_rows, paged_number, paged_count, paged_rows, paged_more}
-use Rattle.rules.specs.Answer.{booked_number, booked_ticket, booked_arrival, booked_count, cancelled_number, cancelled_count}
+use Rattle.rules.specs.Answer.{Planned, Booking, Cancelling, Paged, PlanIs, BookIs, CancelIs, PageIs, answer_number, planned_arrival, planned_count, planned_rows, paged_count, paged_rows, paged_more}
+use Rattle.rules.specs.Answer.{booked_ticket, booked_arrival, booked_count, cancelled_count}
 use Rattle.rules.specs.Frames.{hex_of, line_of, row_lines, after00, answer_list, book_lines, cancel_lines, closed_state, with_place, with_link, Said}
 use Rattle.rules.specs.Frames.{PlaceFrame, LinkFrame, PlanFrame, BookFrame, CancelFrame, PageFrame}
 use Rattle.frames.specs.declared.Head.{Head}
@@ -65,7 +61,7 @@ answer_short h list rows a b c d =
 module _ (s : State) (bytes : List ℕ) (h : Head) {was out : List ℕ} {len : ℕ} where
   pub plan_frame_lem : (p : Planned) (list : List ℕ) (rows : ℕ) {second : ℕ} → second ≡ num3 bytes 3
       → PlanIs s.map s.book (byte_at bytes 1) (byte_at bytes 2) second answer_list list p → rows ≤ plan_limit → length list ≡ list_size → rows ≡ planned_rows p
-      → HeadIs (after00 (planned_number p) (bytes3 (planned_arrival p) ++ bytes2 (planned_count p))) h
+      → HeadIs (after00 (answer_number p) (bytes3 (planned_arrival p) ++ bytes2 (planned_count p))) h
       → Answers (line_of (take h.count h.bytes) ++ row_lines rows list) was out len
       → Spoken (PlanFrame s bytes) was out (record { state = closed_state s s.book; len = len })
   plan_frame_lem p list rows c is few n e H A =
@@ -73,7 +69,7 @@ module _ (s : State) (bytes : List ℕ) (h : Head) {was out : List ℕ} {len : �
       (record { answer = p; list = list; is = rw c at is; said_so = record { next = refl; prints = rw (H.is, e) } })
 
   pub book_frame_lem : (r : Booking) {second : ℕ} → second ≡ num3 bytes 3 → BookIs s.map s.book (byte_at bytes 1) (byte_at bytes 2) second r
-      → HeadIs (after00 (booked_number r.answer) (bytes3 (booked_ticket r.answer) ++ (bytes3 (booked_arrival r.answer) ++ bytes2 (booked_count r.answer)))) h
+      → HeadIs (after00 (answer_number r.answer) (bytes3 (booked_ticket r.answer) ++ (bytes3 (booked_arrival r.answer) ++ bytes2 (booked_count r.answer)))) h
       → Answers (line_of (take h.count h.bytes) ++ row_lines 0 []) was out len
       → Spoken (BookFrame s bytes) was out (record { state = closed_state s r.book; len = len })
   book_frame_lem r c is H A =
@@ -81,7 +77,7 @@ module _ (s : State) (bytes : List ℕ) (h : Head) {was out : List ℕ} {len : �
       (record { answer = r; is = rw c at is; said_so = record { next = refl; prints = rw H.is (append-nil (book_lines r)) } })
 
   pub cancel_frame_lem : (r : Cancelling) {ticket : ℕ} → ticket ≡ num3 bytes 1 → CancelIs s.map s.book ticket r
-      → HeadIs (after00 (cancelled_number r.answer) (bytes2 (cancelled_count r.answer))) h
+      → HeadIs (after00 (answer_number r.answer) (bytes2 (cancelled_count r.answer))) h
       → Answers (line_of (take h.count h.bytes) ++ row_lines 0 []) was out len
       → Spoken (CancelFrame s bytes) was out (record { state = closed_state s r.book; len = len })
   cancel_frame_lem r a is H A =
@@ -91,7 +87,7 @@ module _ (s : State) (bytes : List ℕ) (h : Head) {was out : List ℕ} {len : �
   pub page_frame_lem : (p : Paged) (list : List ℕ) (rows : ℕ) {entry ticket : ℕ} → entry ≡ num3 bytes 3 → ticket ≡ num3 bytes 6
       → PageIs s.map s.book (byte_at bytes 1) (record { place = byte_at bytes 2; entry = entry; ticket = ticket }) answer_list list p
       → rows ≤ plan_limit → length list ≡ list_size → rows ≡ paged_rows p
-      → HeadIs (after00 (paged_number p) (paged_count p ∷ (bit (paged_more p) ∷ []))) h
+      → HeadIs (after00 (answer_number p) (paged_count p ∷ (bit (paged_more p) ∷ []))) h
       → Answers (line_of (take h.count h.bytes) ++ row_lines rows list) was out len
       → Spoken (PageFrame s bytes) was out (record { state = closed_state s s.book; len = len })
   page_frame_lem p list rows c d is few n e H A =

@@ -4,8 +4,7 @@
 ghost use Rattle.std.specs.Prelude.{◌≡◌, true, ℕ, ◌+◌, ◌*◌, ◌%◌, ◌<◌, ◌≤◌, List, [], ◌∷◌, ◌++◌, length, take, drop, MatchOption};
 ghost use Rattle.rules.specs.Rows.{bit};
 ghost use Rattle.rules.specs.Bytes.{bytes2, bytes3, row_size, row_line_size, answer_room};
-ghost use Rattle.rules.specs.Answer.{number, planned_number, planned_arrival, planned_count, paged_number, paged_count, paged_rows, paged_more};
-ghost use Rattle.rules.specs.Answer.{booked_number, booked_ticket, booked_arrival, booked_count, cancelled_number, cancelled_count};
+ghost use Rattle.rules.specs.Answer.{number, answer_number, planned_arrival, planned_count, booked_ticket, booked_arrival, booked_count, cancelled_count, paged_count, paged_rows, paged_more};
 ghost use Rattle.rules.specs.Frames.{digit, hex_of, line_of, row_lines, after00, Said, PlaceFrame, LinkFrame, PlanFrame, BookFrame, CancelFrame, PageFrame, begins};
 ghost use Rattle.rules.specs.Program.{AnswerIs, EndedIs, FedIs, LineIs, Spoken, Tells, empty_line, pushed};
 ghost use Rattle.frames.specs.Lines.{ValueIs, Decoded, FormIs};
@@ -16,8 +15,7 @@ ghost use Rattle.frames.specs.Cutting.{CutIs};
 ghost use Rattle.frames.specs.Put.{Put, Digits, RowsPut};
 
 use rules::{
-    Booked, Cancelled, Cursor, Desk, Intake, Line, Link, Map, Paged, Place, Planned, Refusal, Row,
-    State, Told,
+    Cursor, Desk, Intake, Issued, Line, Link, Map, Place, Refusal, Row, Shown, State, Told, Trip,
 };
 
 // ---- a line
@@ -35,11 +33,10 @@ fn no_digits() -> Line
 fn push(l: Line, c: u8) -> Line
     ensures { (result ≡ pushed l c) × ((line : List ℕ) → LineIs line l → LineIs (line ++ (c ∷ [])) result) }
 {
-    let mut more = l;
     if l.len >= 18 {
-        more.len = 19;
-        return more;
+        return Line { len: 19, ..l };
     }
+    let mut more = l;
     more.digits[l.len] = c;
     more.len = l.len + 1;
     more
@@ -231,82 +228,64 @@ fn refused_head(r: Refusal) -> Head
     }
 }
 
-// The two low bytes of a number, high byte first.
-fn two(x: usize) -> [u8; 2]
-    ensures { result ≡ bytes2 x }
-{
-    [(x / 256 % 256) as u8, (x % 256) as u8]
-}
-
-// The three low bytes.
-fn three(x: u32) -> [u8; 3]
-    ensures { result ≡ bytes3 x }
-{
-    [
-        (x / 65536 % 256) as u8,
-        (x / 256 % 256) as u8,
-        (x % 256) as u8,
-    ]
-}
-
-fn plan_head(p: Planned) -> Head
-    ensures { HeadIs (after00 (planned_number p) (bytes3 (planned_arrival p) ++ bytes2 (planned_count p))) result }
+fn plan_head(p: Result<Trip, Refusal>) -> Head
+    ensures { HeadIs (after00 (answer_number p) (bytes3 (planned_arrival p) ++ bytes2 (planned_count p))) result }
 {
     match p {
-        Planned::Done(t) => {
-            let [a, b, c] = three(t.arrival);
-            let [d, e] = two(t.count);
+        Ok(t) => {
+            let [_, a, b, c] = t.arrival.to_be_bytes();
+            let [.., d, e] = t.count.to_be_bytes();
             Head {
                 bytes: [0, a, b, c, d, e, 0, 0, 0],
                 count: 6,
             }
         }
-        Planned::Refused(r) => refused_head(r),
+        Err(r) => refused_head(r),
     }
 }
 
-fn book_head(b: Booked) -> Head
-    ensures { HeadIs (after00 (booked_number b) (bytes3 (booked_ticket b) ++ (bytes3 (booked_arrival b) ++ bytes2 (booked_count b)))) result }
+fn book_head(b: Result<Issued, Refusal>) -> Head
+    ensures { HeadIs (after00 (answer_number b) (bytes3 (booked_ticket b) ++ (bytes3 (booked_arrival b) ++ bytes2 (booked_count b)))) result }
 {
     match b {
-        Booked::Done(t) => {
-            let [a, b, c] = three(t.ticket);
-            let [d, e, f] = three(t.arrival);
-            let [g, h] = two(t.count);
+        Ok(t) => {
+            let [_, a, b, c] = t.ticket.to_be_bytes();
+            let [_, d, e, f] = t.arrival.to_be_bytes();
+            let [.., g, h] = t.count.to_be_bytes();
             Head {
                 bytes: [0, a, b, c, d, e, f, g, h],
                 count: 9,
             }
         }
-        Booked::Refused(r) => refused_head(r),
+        Err(r) => refused_head(r),
     }
 }
 
-fn cancel_head(a: Cancelled) -> Head
-    ensures { HeadIs (after00 (cancelled_number a) (bytes2 (cancelled_count a))) result }
+fn cancel_head(a: Result<usize, Refusal>) -> Head
+    ensures { HeadIs (after00 (answer_number a) (bytes2 (cancelled_count a))) result }
 {
     match a {
-        Cancelled::Done(n) => {
-            let [a, b] = two(n);
+        Ok(n) => {
+            let [.., a, b] = n.to_be_bytes();
             Head {
                 bytes: [0, a, b, 0, 0, 0, 0, 0, 0],
                 count: 3,
             }
         }
-        Cancelled::Refused(r) => refused_head(r),
+        Err(r) => refused_head(r),
     }
 }
 
-fn page_head(p: Paged) -> Head
+fn page_head(p: Result<Shown, Refusal>) -> Head
     requires { paged_rows p < 256 }
-    ensures { HeadIs (after00 (paged_number p) (paged_count p ∷ (bit (paged_more p) ∷ []))) result }
+    ensures { HeadIs (after00 (answer_number p) (paged_count p ∷ (bit (paged_more p) ∷ []))) result }
 {
     match p {
-        Paged::Done(s) => Head {
+        Ok(s) => Head {
             bytes: [0, s.count as u8, u8::from(s.more), 0, 0, 0, 0, 0, 0],
             count: 3,
         },
-        Paged::Refused(r) => refused_head(r),
+        Err(r) => refused_head(r),
     }
 }
 
@@ -383,7 +362,7 @@ fn plan_frame(s: &State, b: &[u8; 9], out: &mut [u8]) -> usize
     let second = wire::three(b, 3);
     let mut list = [0; Row::LIST];
     let p = planning::plan(s.map, s.book, start, destination, second, &mut list);
-    put_answer(plan_head(p), &list, p.rows(), out)
+    put_answer(plan_head(p), &list, rules::rows_of(p), out)
 }
 
 fn book_frame(s: &mut State, b: &[u8; 9], out: &mut [u8]) -> usize
@@ -418,7 +397,7 @@ fn page_frame(s: &State, b: &[u8; 9], out: &mut [u8]) -> usize
     };
     let mut list = [0; Row::LIST];
     let p = paging::page(s.map, s.book, b[1] as u32, cursor, &mut list);
-    put_answer(page_head(p), &list, p.rows(), out)
+    put_answer(page_head(p), &list, rules::rows_of(p), out)
 }
 
 // A line's answer over the first of out; the state becomes the one after the line.
@@ -530,14 +509,9 @@ pub fn ended(d: Desk, out: &mut [u8]) -> Told
 pub fn first_desk() -> Desk
     ensures { (result.state ≡ begins) × (result.line ≡ empty_line) }
 {
-    let place = Place {
-        capacity: 0,
-        duration: 0,
-    };
-    let link = Link { from: 0, to: 0 };
     let map = Map {
-        places: [place; Map::PLACES],
-        links: [link; Map::LINKS],
+        places: [Place::default(); Map::PLACES],
+        links: [Link::default(); Map::LINKS],
         place_count: 0,
         link_count: 0,
     };

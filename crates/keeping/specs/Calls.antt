@@ -5,15 +5,13 @@ use Rattle.std.specs.Prelude.{List, [], ℕ, ◌+◌, ◌<◌, ◌≤◌, length
 use Rattle.std.proofs.Math.Nat.{min-le_left}
 use Rattle.rules.specs.declared.Map.{Map}
 use Rattle.rules.specs.declared.Book.{Book}
-use Rattle.rules.specs.declared.Booking.{Booking}
-use Rattle.rules.specs.declared.Cancelling.{Cancelling}
 use Rattle.rules.specs.Limits.{row_limit, ticket_limit}
 use Rattle.rules.specs.Map.{Yard, GoodMap, map_yard}
 use Rattle.rules.specs.Plan.{Stay, Permitted}
 use Rattle.rules.specs.Book.{GoodBook, rows_of, book_of}
 use Rattle.rules.specs.Chosen.{Chosen}
 use Rattle.rules.specs.GateLaws.{unless, checked}
-use Rattle.rules.specs.Answer.{BookIs, BookingIs, BookDone, CancelIs, CancellingIs, CancelDone}
+use Rattle.rules.specs.Answer.{Booking, Cancelling, BookIs, BookingIs, BookDone, CancelIs, CancellingIs, CancelDone}
 use Rattle.lanes.specs.Yards.{YardRules, yard_rules}
 use Rattle.lanes.specs.Chosen.{chosen_best}
 use Rattle.keeping.specs.Keeping.{empty_formed, book_keeps, cancel_keeps}

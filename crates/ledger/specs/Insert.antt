@@ -12,7 +12,7 @@ use Rattle.rules.specs.Book.{rows_of, book_of}
 use Rattle.keeping.specs.OrderLaws.{less_trans, lessb_less, not_less}
 use Rattle.keeping.specs.Changes.{insert_length}
 use Rattle.keeping.specs.Books.{book_eq, count_rows}
-use Rattle.ledger.specs.Lists.{put, Moved, moved_none, moved_more, moved_put}
+use Rattle.ledger.specs.Lists.{put, Moved, moved_more, moved_put}
 
 -- where a row goes: before the first whose key is above its own
 insert_at : (r : Row) (l : List Row) (at : ℕ) → at ≤ length l
@@ -49,9 +49,6 @@ pub record Shifted (r : Row) (b out : Book) (j : ℕ) : Type 0 where
   pub ticket : out.next_ticket ≡ b.next_ticket
 
 module _ (r : Row) (b : Book) where
-  pub shift_none : Shifted r b b b.count
-  shift_none = record { within = omega arith; moved = moved_none no_row b.rows b.count; above = λ h. absurd (omega arith); ticket = refl }
-
   module _ (long : length b.rows ≡ row_limit) (fits : b.count < row_limit) {out : Book} {j : ℕ} (S : Shifted r b out j) where
     -- the row below is above r, and moves up
     pub shift_next : 0 < j → lessb (row_key r) (row_key (row_at out.rows (j - 1))) ≡ true

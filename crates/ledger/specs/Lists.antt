@@ -61,9 +61,6 @@ module _ {A : Type 0} (z : A) where
     pub up : (k : ℕ) → j < k → k ≤ n → get_or m k z ≡ get_or l (k - 1) z
     pub high : (k : ℕ) → n < k → get_or m k z ≡ get_or l k z
 
-  pub moved_none : (l : List A) (n : ℕ) → Moved l l n n
-  moved_none l n = record { long = refl; low = λ k h. refl; up = λ k h i. absurd (omega arith); high = λ k h. refl }
-
   pub moved_more : (l m : List A) (n j : ℕ) → 0 < j → j ≤ n → n < length l → Moved l m n j → Moved l (set m j (get_or m (j - 1) z)) n (j - 1)
   moved_more l m n j p q r s = record {
     long = length-set m j (get_or m (j - 1) z) ∙ s.long;

@@ -39,9 +39,6 @@ module _ (f : Row → Bool) where
     pub stand : out ≡ keep f (take i rows) ++ replicate (row_limit - k) no_row
     pub counts : k ≡ length (keep f (take i rows))
 
-  pub kept_none : (rows out : List Row) → out ≡ replicate row_limit no_row → Kept rows out 0 0
-  kept_none rows out e = record { stand = e; counts = refl }
-
   module _ {rows out : List Row} {k i : ℕ} (K : Kept rows out k i) where
     pub kept_le : i ≤ length rows → k ≤ i
     kept_le h = omega (arith, K.counts, keep_le f (take i rows), length-take-le i rows h)

@@ -13,10 +13,8 @@ use rules::{Book, Row};
 pub fn empty_book() -> Book
     ensures { result ≡ book_of [] 1 }
 {
-    let none = Row::none();
-    let rows = [none; Book::ROWS];
     Book {
-        rows: rows,
+        rows: [Row::none(); Book::ROWS],
         count: 0,
         next_ticket: 1,
     }
@@ -36,14 +34,12 @@ pub fn remove_ticket(b: Book, ticket: u32) -> Removed
     let n = b.count;
     let mut out = empty_book();
     let mut kept = 0;
-    let mut i = 0;
-    while i < n {
+    for i in 0..n {
         let x = b.rows[i];
         if x.ticket != ticket {
             out.rows[kept] = x;
             kept += 1;
         }
-        i += 1;
     }
     out.count = kept;
     out.next_ticket = b.next_ticket;
@@ -58,7 +54,8 @@ pub fn issued(b: Book) -> Book
     requires { b.next_ticket < ticket_limit }
     ensures { (l : List Row) (t : ℕ) → b ≡ book_of l t → result ≡ book_of l (t + 1) }
 {
-    let mut out = b;
-    out.next_ticket = b.next_ticket + 1;
-    out
+    Book {
+        next_ticket: b.next_ticket + 1,
+        ..b
+    }
 }

@@ -1,7 +1,7 @@
 -- From a place along the crossings of a second: the places led to are marked and listed; one after the other each is expanded, the places that it
 -- leads to marked. At the end the marks are closed under crossings, and to each marked place crossings lead.
-use Rattle.std.specs.Prelude.{ℕ, ◌+◌, ◌≤◌, ◌<◌, ◌≡◌, Bool, List}
-use Rattle.std.proofs.Common.{sym, ap, subst, ◌∙◌, inl, inr, ⊎_elim, arith, below_more}
+use Rattle.std.specs.Prelude.{ℕ, ◌+◌, ◌-◌, ◌≤◌, ◌<◌, ◌≡◌, Bool, List, take, drop, Option, None, Some}
+use Rattle.std.proofs.Common.{sym, ap, subst, ◌∙◌, inl, inr, ⊎_elim, arith, below_more, get_or-take, get_or-drop}
 use Rattle.laws.specs.Order.{lt_or_ge}
 use Rattle.laws.specs.Lists.{at}
 use Rattle.rules.specs.declared.Row.{Row}
@@ -9,7 +9,7 @@ use Rattle.rules.specs.Rows.{Crossing, Leads}
 use Rattle.rules.specs.Rows.Leads.{one}
 use Rattle.rules.specs.RowLaws.{then, leads_into, last_step, Reaches}
 use Rattle.flat.specs.Flat.{exit_of, next_value}
-use Rattle.lookup.specs.Lists.{Marked, Listing, Grown, Put, grown_start}
+use Rattle.lookup.specs.Lists.{Marked, Listing, Grown, Put}
 
 -- ---- one place expanded
 
@@ -24,6 +24,10 @@ pub spread_as : {To To' : ℕ → Type 0} {p l l' : ℕ} {M M' : List Bool} {W W
     → Spread To p M W l M' W' l' → Spread To' p M W l M' W' l'
 spread_as {p = p} f g S = record { grown = S.grown; new = λ k a b. f _ (S.new k a b); all = λ y h. S.all y (g y h); none = λ h. S.none (g p h) }
 
+-- row i of the rows a .. b
+pub part_at : (X : List ℕ) (a b i : ℕ) → i < b - a → at (take (b - a) (drop a X)) i ≡ at X (a + i)
+part_at X a b i h = get_or-take (b - a) (drop a X) i 0 h ∙ get_or-drop a X i 0
+
 -- one of the rows a .. b goes on from x to y at t
 pub record Onward (X : List ℕ) (a b x t y : ℕ) : Type 0 where
   pub row : ℕ
@@ -33,13 +37,10 @@ pub record Onward (X : List ℕ) (a b x t y : ℕ) : Type 0 where
   pub next : next_value (at X row) ≡ y
   pub apart : y ≡ x → ⊥
 
--- the answer of an expansion: the list's new length, or a number above every length where p is met
-pub record Expanded (X : List ℕ) (a b x p t : ℕ) (M : List Bool) (W : List ℕ) (l : ℕ) (M' : List Bool) (W' : List ℕ) (r : ℕ) : Type 0 where
-  pub met : 256 < r → Onward X a b x t p
-  pub spread : r ≤ 256 → Spread (Onward X a b x t) p M W l M' W' r
-
-pub list_few : {M : List Bool} {W : List ℕ} {l : ℕ} → Listing M W l → l ≤ 256
-list_few L = omega (arith, L.room)
+-- the answer of an expansion: the list's new length, None where p is met
+pub record Expanded (X : List ℕ) (a b x p t : ℕ) (M : List Bool) (W : List ℕ) (l : ℕ) (M' : List Bool) (W' : List ℕ) (r : Option ℕ) : Type 0 where
+  pub met : r ≡ None → Onward X a b x t p
+  pub spread : (l' : ℕ) → r ≡ Some l' → Spread (Onward X a b x t) p M W l M' W' l'
 
 onward_more : {X : List ℕ} {a b x t y : ℕ} → Onward X a b x t y → Onward X a (b + 1) x t y
 onward_more o = record { row = o.row; from = o.from; to = omega (arith, o.to); exit = o.exit; next = o.next; apart = o.apart }
@@ -48,9 +49,6 @@ module _ (X : List ℕ) (a x p t : ℕ) (M : List Bool) (W : List ℕ) (l : ℕ)
   -- rows a .. i looked through
   abbrev pub Looked : ℕ → List Bool → List ℕ → ℕ → Type 0
   Looked i M' W' l' = Spread (Onward X a i x t) p M W l M' W' l'
-
-  pub looked_start : Listing M W l → Looked a M W l
-  looked_start L = record { grown = grown_start L; new = λ k g h. absurd (omega arith); all = λ y o. absurd (omega (arith, o.from, o.to)); none = λ o. absurd (omega (arith, o.from, o.to)) }
 
   module _ {i : ℕ} {M' : List Bool} {W' : List ℕ} {l' : ℕ} (S : Looked i M' W' l') where
     -- of the rows up to i, row i or one before
@@ -90,17 +88,6 @@ module _ (X : List ℕ) (a x p t : ℕ) (M : List Bool) (W : List ℕ) (l : ℕ)
         G : Grown M' W' l' M'' W'' l''
         G = P.grown
 
-    -- one that leads to p
-    pub looked_met : {b : ℕ} {M'' : List Bool} {W'' : List ℕ} → a ≤ i → i < b → exit_of (at X i) ≡ t → next_value (at X i) ≡ p → (p ≡ x → ⊥) → Expanded X a b x p t M W l M'' W'' 257
-    looked_met h k e n ne = record { met = λ _. record { row = i; from = h; to = k; exit = e; next = n; apart = ne }; spread = λ d. absurd (omega arith) }
-
-    -- all rows looked through
-    pub looked_all : {b : ℕ} → i ≡ b → Expanded X a b x p t M W l M' W' l'
-    looked_all {b} e = record {
-      met = λ g. absurd (omega (arith, list_few S.grown.list));
-      spread = λ _. subst (λ (u : ℕ). Looked u M' W' l') e S;
-    }
-
   -- lists named anew
   pub looked_as : {i l' l'' : ℕ} {M' M'' : List Bool} {W' W'' : List ℕ} → M'' ≡ M' → W'' ≡ W' → l'' ≡ l' → Looked i M' W' l' → Looked i M'' W'' l''
   looked_as c d e S = rw (c, d, e) S
@@ -128,9 +115,6 @@ reach_on {rows} {t} {q} {x} {y} (inl e) c = subst (λ (u : ℕ). Leads rows t u 
 reach_on (inr l) c = then l (one c)
 
 module _ (rows : List Row) (t q p : ℕ) where
-  pub going_start : {M : List Bool} {W : List ℕ} {M' : List Bool} {W' : List ℕ} {l : ℕ} → Put q M W 0 M' W' l → Going rows t q p M' W' 0 l
-  going_start P = record { list = P.grown.list; up = omega arith; root = P.here; reached = λ k h. inl (sym (P.new k (omega arith) h)); done = λ k h. absurd (omega arith) }
-
   module _ {M : List Bool} {W : List ℕ} {h l : ℕ} (G : Going rows t q p M W h l) where
     pub going_turn : {M' : List Bool} {W' : List ℕ} {l' : ℕ} → h < l → Spread (λ y. Crossing rows (at W h) y t) p M W l M' W' l' → Going rows t q p M' W' (h + 1) l'
     going_turn {M'} {W'} {l'} b S = record {

@@ -1,7 +1,7 @@
 -- What a map's arrays are tested for, and that the tests together are the map's rules: the rules speak of the lists of places and links
 -- that the arrays stand for, and the test of the entry at an index is the rule at that index.
-use Rattle.std.specs.Prelude.{ℕ, ◌+◌, ◌≤◌, ◌<◌, ◌≡◌, refl, Bool, true, false, List, length}
-use Rattle.std.proofs.Common.{sym, ap, ◌∙◌, arith, below_more}
+use Rattle.std.specs.Prelude.{ℕ, ◌≤◌, ◌<◌, ◌≡◌, refl, Bool, true, false, List, length}
+use Rattle.std.proofs.Common.{sym, ap, ◌∙◌, arith}
 use Rattle.laws.specs.Tests.{not_both}
 use Rattle.laws.specs.Lists.{at}
 use Rattle.rules.specs.declared.Link.{Link}
@@ -44,22 +44,6 @@ pub record MapFits (n k : ℕ) (C D F T H N : List ℕ) (r : Bool) : Type 0 wher
   pub all : MapRules (places_in C D n) (links_in F T k) → r ≡ true
   pub len_head : length H ≡ 256
   pub len_chain : length N ≡ 1024
-
--- ---- the loops over places and links
-
-module _ (C D : List ℕ) where
-  pub places_none : PlacesFit C D 0
-  places_none = record { each = λ p h. absurd (omega arith) }
-
-  pub places_next : (p : ℕ) → PlacesFit C D p → PlaceFits (at C p) (at D p) → PlacesFit C D (p + 1)
-  places_next p P f = record { each = below_more (λ i. PlaceFits (at C i) (at D i)) p P.each f }
-
-module _ (F T : List ℕ) (n : ℕ) where
-  pub links_none : LinksFit F T n 0
-  links_none = record { each = λ j h. absurd (omega arith) }
-
-  pub links_next : (j : ℕ) → LinksFit F T n j → LinkFits n (at F j) (at T j) → LinksFit F T n (j + 1)
-  links_next j L f = record { each = below_more (λ i. LinkFits n (at F i) (at T i)) j L.each f }
 
 -- ---- the tests together are the rules
 
@@ -119,15 +103,6 @@ module _ (C D F T : List ℕ) (n k : ℕ) where
 module _ {n k : ℕ} {C D F T H N : List ℕ} (h : length H ≡ 256) (c : length N ≡ 1024) where
   pub refused : (MapRules (places_in C D n) (links_in F T k) → ⊥) → MapFits n k C D F T H N false
   refused bad = record { kept = λ q. absurd (not_both q refl); chained = λ q. absurd (not_both q refl); all = λ M. absurd (bad M); len_head = h; len_chain = c }
-
-  pub no_place : n < 1 → MapFits n k C D F T H N false
-  no_place e = refused (λ M. omega (arith, rules_some C D F T n k M))
-
-  pub many_places : 256 < n → MapFits n k C D F T H N false
-  many_places e = refused (λ M. omega (arith, rules_few C D F T n k M))
-
-  pub many_links : 1024 < k → MapFits n k C D F T H N false
-  many_links e = refused (λ M. omega (arith, rules_few_links C D F T n k M))
 
   pub bad_place : (PlacesFit C D n → ⊥) → MapFits n k C D F T H N false
   bad_place bad = refused (λ M. bad (rules_places C D F T n k M))

@@ -5,7 +5,7 @@ use Rattle.std.proofs.Common.{sym, ap, subst, ◌∙◌, inl, inr, ⊎_elim, ari
 use Rattle.std.proofs.lemmas.List.{length-replicate}
 use Rattle.laws.specs.Order.{lt_or_ge, eq_or_ne}
 use Rattle.laws.specs.Tests.{true_or_false, and_in, or_l, or_r}
-use Rattle.laws.specs.Lists.{at}
+use Rattle.laws.specs.Lists.{at, zeros}
 use Rattle.rules.specs.declared.Link.{Link}
 use Rattle.rules.specs.Map.{link_at, linked}
 use Rattle.lanes.specs.Yards.{linked_at}
@@ -51,9 +51,6 @@ linking_turn F j f H N L h e b = rw e (linking_here F j H N L h (omega arith))
 
 -- a link's number falls along a list
 module _ {F : List ℕ} {k : ℕ} {H N : List ℕ} (L : Chained F k H N) where
-  pub head_within : (p : ℕ) → p < 256 → at H p ≤ k
-  head_within p h = omega (arith, L.head p h, (last_is F p k).within)
-
   pub chain_within : (j : ℕ) → j < k → at N j ≤ j
   chain_within j h = omega (arith, L.link j h, (last_is F (at F j) j).within)
 
@@ -187,15 +184,6 @@ module _ (F T : List ℕ) (p k : ℕ) where
       pub marking_turn : (q : ℕ) → q ≡ at T (l - 1) → q < 256 → (at M q ≡ p + 1 → ⊥) → Marking (at N (l - 1)) (set M q (p + 1))
       marking_turn q e b free = rw e (marking_here (omega arith) (λ m. free (ap (at M) e ∙ m)))
 
-      pub marking_twice : (q : ℕ) → q ≡ at T (l - 1) → at M q ≡ p + 1 → OnceFrom F T k p → ⊥
-      marking_twice q z m O =
-          let e = ap (at M) (sym z) ∙ m in
-          let x = K.met (at T (l - 1)) e in
-          O.twice (l - 1) x.link (omega (arith, x.from)) x.below (K.walk.leaves (l - 1) (omega arith)) x.leaves (sym x.to)
-
-  pub marking_once : (M : List ℕ) → Marking 0 M → OnceFrom F T k p
-  marking_once M K = record { twice = λ i j h g a b e. (K.walk.passed i (omega arith) (omega arith) a).once j h g b e }
-
 -- ---- place by place
 
 -- the lists of the places below p are walked: none of these places has two links to the same place, and no mark is above p
@@ -211,11 +199,6 @@ pub record PlaceOnce (F T : List ℕ) (k p : ℕ) (M : List ℕ) (r : Bool) : Ty
   pub low : (q : ℕ) → at M q ≤ p + 1
   pub long : length M ≡ 256
 
-zeros : (n q : ℕ) → at (replicate n 0) q ≡ 0
-zeros zero q = refl
-zeros (suc n) zero = refl
-zeros (suc n) (suc q) = zeros n q
-
 module _ (F T : List ℕ) (k : ℕ) where
   pub walked_first : (n : ℕ) → n ≡ 256 → Walked F T k 0 (replicate n 0)
   walked_first n e = record { once = λ o h. absurd (omega arith); low = λ q. omega (arith, zeros n q); long = length-replicate n 0 ∙ e }
@@ -226,6 +209,3 @@ module _ (F T : List ℕ) (k : ℕ) where
   -- with every link from a place below n, the places' links together are all links
   pub walked_all : (n : ℕ) (M : List ℕ) → Walked F T k n M → ((j : ℕ) → j < k → at F j < n) → Once F T k
   walked_all n M W on = record { twice = λ i j h g a b. (W.once (at F i) (on i (omega arith))).twice i j h g refl (sym a) b }
-
-  pub once_from : (p : ℕ) → Once F T k → OnceFrom F T k p
-  once_from p O = record { twice = λ i j h g a b e. O.twice i j h g (a ∙ sym b) e }

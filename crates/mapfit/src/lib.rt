@@ -16,19 +16,7 @@ use rules::Map;
 fn place_fits(c: u8, d: u32) -> bool
     ensures { Decides result (PlaceFits c d) }
 {
-    if c < 1 {
-        return false;
-    }
-    if c > Map::CAPACITY {
-        return false;
-    }
-    if d < 1 {
-        return false;
-    }
-    if d > Map::DURATION {
-        return false;
-    }
-    true
+    (1..=Map::CAPACITY).contains(&c) && (1..=Map::DURATION).contains(&d)
 }
 
 // each of the first n places has a capacity and a duration within the limits
@@ -36,27 +24,14 @@ fn places_fit(n: usize, cap: &[u8; 256], dur: &[u32; 256]) -> bool
     requires { n ≤ place_limit }
     ensures { Decides result (PlacesFit cap.now dur.now n) }
 {
-    let mut p = 0;
-    while p < n {
-        if !place_fits(cap[p], dur[p]) {
-            return false;
-        }
-        p += 1;
-    }
-    true
+    cap[..n].iter().zip(dur).all(|(c, d)| place_fits(*c, *d))
 }
 
 // a link between two different places of n
 fn link_fits(n: usize, f: u8, t: u8) -> bool
     ensures { Decides result (LinkFits n f t) }
 {
-    if f as usize >= n {
-        return false;
-    }
-    if t as usize >= n {
-        return false;
-    }
-    f != t
+    usize::from(f) < n && usize::from(t) < n && f != t
 }
 
 // each of the first k links is one between two different places of n
@@ -64,21 +39,7 @@ fn links_fit(n: usize, k: usize, from: &[u8; 1024], to: &[u8; 1024]) -> bool
     requires { k ≤ link_limit }
     ensures { Decides result (LinksFit from.now to.now n k) }
 {
-    let mut j = 0;
-    while j < k {
-        if !link_fits(n, from[j], to[j]) {
-            return false;
-        }
-        j += 1;
-    }
-    true
-}
-
-// a place's number as an index
-fn place_index(p: u8) -> usize
-    ensures { (result ≡ p) × (result < 256) }
-{
-    p as usize
+    from[..k].iter().zip(to).all(|(f, t)| link_fits(n, *f, *t))
 }
 
 // the first k links by the place that they leave, each place's last link first
@@ -89,12 +50,10 @@ fn chain_links(k: usize, from: &[u8; 1024], head: &mut [u16; 256], chain: &mut [
     requires by_index { (p : ℕ) → at head.old p ≡ 0 }
     ensures { Linking from.now k head.new chain.new }
 {
-    let mut j = 0;
-    while j < k {
-        let f = place_index(from[j]);
+    for j in 0..k {
+        let f = usize::from(from[j]);
         chain[j] = head[f];
         head[f] = (j + 1) as u16;
-        j += 1;
     }
 }
 
@@ -117,8 +76,9 @@ fn place_once(
 {
     let m = (p + 1) as u16;
     let mut l = head[p] as usize;
+    // from link to link by the numbers in fixed memory, so no range to go over
     while l > 0 {
-        let q = place_index(to[l - 1]);
+        let q = usize::from(to[l - 1]);
         if mark[q] == m {
             return false;
         }
@@ -144,12 +104,10 @@ fn links_once(
     ensures { Decides result (Once from.now to.now k) }
 {
     let mut mark = [0u16; 256];
-    let mut p = 0;
-    while p < n {
+    for p in 0..n {
         if !place_once(p, k, from, to, head, chain, &mut mark) {
             return false;
         }
-        p += 1;
     }
     true
 }
@@ -170,19 +128,10 @@ pub fn map_fits(
     requires by_index { (p : ℕ) → at head.old p ≡ 0 }
     ensures { MapFits n k cap.now dur.now from.now to.now head.new chain.new result }
 {
-    if n < 1 {
+    if n < 1 || n > Map::PLACES || k > Map::LINKS {
         return false;
     }
-    if n > Map::PLACES {
-        return false;
-    }
-    if k > Map::LINKS {
-        return false;
-    }
-    if !places_fit(n, cap, dur) {
-        return false;
-    }
-    if !links_fit(n, k, from, to) {
+    if !places_fit(n, cap, dur) || !links_fit(n, k, from, to) {
         return false;
     }
     chain_links(k, from, head, chain);
@@ -205,6 +154,7 @@ pub fn linked_by(
     ensures { result ≡ linked (links_in from.now to.now k) p q }
 {
     let mut l = head[p] as usize;
+    // from link to link by the numbers in fixed memory, so no range to go over
     while l > 0 {
         if to[l - 1] == q {
             return true;

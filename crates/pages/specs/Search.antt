@@ -1,7 +1,10 @@
 -- The first row above a cursor among rows in key order. The test "above the cursor" answers no up to some row and yes from it on, since
 -- the order of keys is transitive; so a search that halves the stretch between a no and a yes ends where the yes begins.
-use Rattle.std.specs.Prelude.{ℕ, ◌+◌, ◌-◌, ◌/◌, ◌≤◌, ◌<◌, ◌≡◌, Bool, true, false, List, length}
-use Rattle.std.proofs.Common.{subst, ⊎_elim, arith}
+use Rattle.std.specs.Prelude.{ℕ, ◌≤◌, ◌<◌, ◌≡◌, Bool, true, false, not, List, length, get_or, take}
+use Rattle.std.specs.List.Sorted.{IsPartitionedBy, IsPartitionPoint}
+use Rattle.std.proofs.Common.{subst, ap, ◌∙◌, ⊎_elim, arith, get_or-take, length-take-le}
+use Rattle.std.proofs.lemmas.List.{get_or_default}
+use Rattle.std.proofs.lemmas.Bool.{not-true, not-false}
 use Rattle.laws.specs.Order.{lt_or_ge}
 use Rattle.laws.specs.Tests.{true_or_false, not_both}
 use Rattle.laws.specs.Lists.{at}
@@ -29,41 +32,33 @@ above_on {K} R k i j h b t =
     (λ (c : j ≤ i). let e : i ≡ j = omega arith in subst (λ (n : ℕ). above K k n ≡ true) e t)
     (lt_or_ge i j)
 
--- the search's stretch lo .. hi: no before it, yes from its end on
-pub record Between (K : List ℕ) (k : Key) (count lo hi : ℕ) : Type 0 where
-  pub ordered : lo ≤ hi
-  pub within : hi ≤ count
-  pub no : (i : ℕ) → i < lo → above K k i ≡ false
-  pub yes : (i : ℕ) → hi ≤ i → i < count → above K k i ≡ true
+-- row by packed key: not above the key
+abbrev pub passed : Key → ℕ → Bool
+passed k x = not (lessb k (key_is x))
 
-pub between_start : (K : List ℕ) (k : Key) (count : ℕ) → Between K k count 0 count
-between_start K k count = record { ordered = omega arith; within = omega arith; no = λ i l. absurd (omega arith); yes = λ i l m. absurd (omega arith) }
+module _ (K : List ℕ) (count : ℕ) (long : count ≤ length K) where
+  here : (i d : ℕ) → i < count → get_or (take count K) i d ≡ at K i
+  here i d h = get_or-take count K i d h ∙ get_or_default K i d 0 (omega arith)
 
-module _ {K : List ℕ} {count : ℕ} (R : KeysRise K count) {k : Key} {lo hi : ℕ} (b : Between K k count lo hi) (h : lo < hi) where
-  pub between_yes : above K k (lo + (hi - lo) / 2) ≡ true → Between K k count lo (lo + (hi - lo) / 2)
-  between_yes t = record {
-    ordered = omega arith;
-    within = omega (arith, b.within);
-    no = b.no;
-    yes = λ i l m. above_on R k (lo + (hi - lo) / 2) i l m t;
-  }
+  -- none that is passed comes after one that is not
+  pub passed_first : KeysRise K count → (k : Key) → IsPartitionedBy (passed k) (take count K)
+  passed_first R k i j d h l t =
+      let g : j < count = omega (arith, length-take-le count K long) in
+      let t' : passed k (at K j) ≡ true = rw (here j d g) at t in
+      rw (here i d (omega arith))
+      (⊎_elim (λ (y : above K k i ≡ true). absurd (not_both t' (ap not (above_on R k i j h g y)))) (λ (n : above K k i ≡ false). ap not n) (true_or_false (above K k i)))
 
-  pub between_no : above K k (lo + (hi - lo) / 2) ≡ false → Between K k count (lo + (hi - lo) / 2 + 1) hi
-  between_no t = record {
-    ordered = omega arith;
-    within = b.within;
-    no = λ i l.
-        ⊎_elim (λ y. absurd (not_both (above_on R k i (lo + (hi - lo) / 2) (omega arith) (omega (arith, b.within)) y) t)) (λ n. n) (true_or_false (above K k i));
-    yes = b.yes;
-  }
-
--- where the stretch is empty the first row above the key is found
-pub between_end : (K X : List ℕ) {k : Key} {count lo hi : ℕ} → Between K k count lo hi → hi ≤ lo → FirstAfter (rows_in K X count) k lo
-between_end K X {k} {count} {lo} {hi} b h =
-    let c = rows_long K X count in
-    let i : lo ≤ count = omega (arith, b.within, b.ordered) in
-    record {
-      within = omega arith;
-      before = λ i l. rw (row_in K X count i (omega arith)) (b.no i l);
-      from = λ i l m. let u : i < count = omega arith in rw (row_in K X count i u) (b.yes i (omega arith) u);
-    }
+  -- the point between those passed and those above is the first row above
+  pub first_found : (X : List ℕ) (k : Key) (r : ℕ) → r ≤ length (take count K) → IsPartitionPoint (λ y. passed k y ≡ true) (λ y. passed k y ≡ false) (take count K) r → FirstAfter (rows_in K X count) k r
+  first_found X k r h P =
+      let c = rows_long K X count in
+      let m = length-take-le count K long in
+      record {
+        within = omega arith;
+        before = λ i l.
+            let g : i < count = omega arith in
+            rw (row_in K X count i g) (not-true _ (rw (here i 0 g) at (P.0 i 0 (omega arith) l)));
+        from = λ i l u.
+            let g : i < count = omega arith in
+            rw (row_in K X count i g) (not-false _ (rw (here i 0 g) at (P.1 i 0 l (omega arith))));
+      }

@@ -1,13 +1,12 @@
 -- What a page shows, from the index of the first row above the cursor: the rows from it on are all the rows above the cursor, so their
 -- number is known, and the page is a run of the arrays' rows whose last row's key is the next cursor.
-use Rattle.std.specs.Prelude.{ℕ, zero, suc, ◌+◌, ◌-◌, ◌≤◌, ◌<◌, ◌≡◌, refl, List, [], ◌∷◌, length, take, drop, ltb}
-use Rattle.std.proofs.Common.{zero-le, sym, ap, ◌∙◌, ⊎_elim, arith, length-drop, take_all}
+use Rattle.std.specs.Prelude.{ℕ, zero, suc, ◌+◌, ◌-◌, ◌≤◌, ◌≡◌, refl, List, [], ◌∷◌, length, take, drop, min, ltb, Ok}
+use Rattle.std.proofs.Common.{zero-le, sym, ap, ◌∙◌, arith, length-drop}
+use Rattle.std.proofs.lemmas.List.{take_min}
 use Rattle.std.proofs.Math.Seq.{drop-nil}
-use Rattle.laws.specs.Order.{lt_or_ge}
 use Rattle.laws.specs.Lists.{at, tabulate, length_tabulate}
 use Rattle.rules.specs.declared.Row.{Row}
 use Rattle.rules.specs.declared.Shown.{Shown}
-use Rattle.rules.specs.declared.Paged.TheVariants.{Done}
 use Rattle.rules.specs.Rows.{Key, row_key, cursor_key}
 use Rattle.rules.specs.Page.{after, page_rows, last_key}
 use Rattle.rules.specs.Bytes.{written}
@@ -34,18 +33,6 @@ drop_first (a ∷ rows) k (suc r) F =
       before = λ i l. F.before (suc i) (omega arith);
       from = λ i l m. F.from (suc i) (omega arith) (omega arith);
     }))
-
--- r is the lesser of a and b: at most either, and where it is below b it is a
-pub record Lesser (a b r : ℕ) : Type 0 where
-  pub left : r ≤ a
-  pub right : r ≤ b
-  pub is_left : r < b → r ≡ a
-
--- as many elements as are asked for and there
-pub take_lesser : {A : Type 0} (n : ℕ) (l : List A) {m : ℕ} → Lesser n (length l) m → take n l ≡ take m l
-take_lesser n l {m} f =
-    ⊎_elim (λ (h : m < length l). ap (λ (j : ℕ). take j l) (sym (f.is_left h))) (λ (h : length l ≤ m). take_all n l (omega (arith, f.left)) ∙ sym (take_all m l h))
-    (lt_or_ge m (length l))
 
 -- the last of one or more rows made of a function
 pub last_tabulate : (k : Key) (m : ℕ) (f : ℕ → Row) → last_key k (tabulate (suc m) f) ≡ row_key (f m)
@@ -78,19 +65,21 @@ module _ (K X : List ℕ) (count : ℕ) (k : Key) {first : ℕ} (F : FirstAfter 
       ∙ ap (λ (n : ℕ). n - first) (rows_long K X count)
 
   -- a page is a run of the arrays' rows
-  pub page_run : (size n : ℕ) → Lesser size (count - first) n → page_rows size k (rows_in K X count) ≡ rows_for K X first n
-  page_run size n f =
-      take_lesser size (after k (rows_in K X count)) {m = n} (rw after_long f)
+  pub page_run : (size : ℕ) → page_rows size k (rows_in K X count) ≡ rows_for K X first (min size (count - first))
+  page_run size =
+      let n = min size (count - first) in
+      sym (take_min size (after k (rows_in K X count)))
+      ∙ ap (λ (m : ℕ). take (min size m) (after k (rows_in K X count))) after_long
       ∙ ap (take n) (sym (drop_first (rows_in K X count) k first F))
-      ∙ sym (rows_for_lem K X first n count (omega (arith, f.right, first_within)))
+      ∙ sym (rows_for_lem K X first n count (omega (arith, first_within)))
 
   -- the answer of a page, of its parts
-  pub page_done : (size : ℕ) (was out : List ℕ) (s : Shown) → Lesser size (count - first) s.count → s.more ≡ ltb size (count - first)
+  pub page_done : (size : ℕ) (was out : List ℕ) (s : Shown) → s.count ≡ min size (count - first) → s.more ≡ ltb size (count - first)
       → cursor_key s.cursor ≡ last_key k (rows_for K X first s.count)
       → out ≡ written (rows_for K X first s.count) was
-      → PageDone (rows_in K X count) size k was out (Done s)
+      → PageDone (rows_in K X count) size k was out (Ok s)
   page_done size was out s f m c o =
-      let e = page_run size s.count f in
+      let e : page_rows size k (rows_in K X count) ≡ rows_for K X first s.count = page_run size ∙ ap (rows_for K X first) (sym f) in
       record {
         code = refl;
         counts = rw e (sym (length_tabulate s.count (λ i. row_of (at K (first + i)) (at X (first + i)))));

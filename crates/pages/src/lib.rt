@@ -2,7 +2,6 @@
 #![tactic(auto)]
 
 ghost use Rattle.std.specs.Prelude.{◌≡◌, ◌+◌, ◌≤◌, ◌<◌};
-ghost use Rattle.rules.specs.declared.Paged.{Paged};
 ghost use Rattle.rules.specs.Limits.{row_limit, page_limit};
 ghost use Rattle.rules.specs.Rows.{cursor_key};
 ghost use Rattle.rules.specs.Page.{last_key};
@@ -10,40 +9,33 @@ ghost use Rattle.rules.specs.Bytes.{records};
 ghost use Rattle.rules.specs.Answer.{PageDone};
 ghost use Rattle.flat.specs.Flat.{rows_in, Packed, KeysRise};
 ghost use Rattle.wire.specs.Tables.{rows_for};
-ghost use Rattle.pages.specs.Search.{FirstAfter};
-ghost use Rattle.pages.specs.Shown.{Lesser};
+ghost use Rattle.pages.specs.Search.{passed, FirstAfter};
 
 use rules::{Cursor, Shown};
 use wire::{copy_rows, row_at};
 
-// The index of the first row above the cursor, count where there is none.
+// The packed key is not above the cursor.
+#[tactic(auto, unfolding(rules::specs::Rows::lessb))]
+fn reached(key: u64, c: Cursor) -> bool
+    ensures { result ≡ passed (cursor_key c) key }
+{
+    let row = (
+        key / flat::PLACE,
+        key / flat::SECOND % flat::SECOND,
+        key % flat::SECOND,
+    );
+    row <= (u64::from(c.place), u64::from(c.entry), u64::from(c.ticket))
+}
+
+// The index of the first row above the cursor, count where there is none. The tails are read in the clause alone.
 pub fn first_after(key: &[u64; 1024], tail: &[u32; 1024], count: usize, c: Cursor) -> usize
     requires count_le_row_limit { count ≤ row_limit }
     requires keys_rise { KeysRise key.now count }
     requires packed { Packed key.now }
-    ensures { FirstAfter (rows_in key.now tail.now count) (cursor_key c) result }
+    ensures within { result ≤ count }
+    ensures first { FirstAfter (rows_in key.now tail.now count) (cursor_key c) result }
 {
-    let mut lo: usize = 0;
-    let mut hi = count;
-    while lo < hi {
-        let mid = lo + (hi - lo) / 2;
-        let r = row_at(key, tail, mid);
-        if c.before(r) {
-            hi = mid;
-        } else {
-            lo = mid + 1;
-        }
-    }
-    lo
-}
-
-fn lesser(a: usize, b: usize) -> usize
-    ensures { Lesser a b result }
-{
-    if a < b {
-        return a;
-    }
-    b
+    key[..count].partition_point(|k| reached(*k, c))
 }
 
 // The cursor after n rows from an index on: the last one's key, or the cursor given where there is none.
@@ -74,17 +66,17 @@ pub fn page_of(
     requires le_size { 1 ≤ size }
     requires size_le_page_limit { size ≤ page_limit }
     requires size_bound { size ≤ records out.old }
-    ensures { PageDone (rows_in key.now tail.now count) size (cursor_key c) out.old out.new (Paged.Done result) }
+    ensures { PageDone (rows_in key.now tail.now count) size (cursor_key c) out.old out.new (Ok result) }
 {
     let asked = size as usize;
     let first = first_after(key, tail, count, c);
     let left = count - first;
-    let n = lesser(asked, left);
+    let n = asked.min(left);
     copy_rows(key, tail, first, n, out);
     let cursor = cursor_after(key, tail, first, n, c);
     Shown {
         count: n,
         more: asked < left,
-        cursor: cursor,
+        cursor,
     }
 }

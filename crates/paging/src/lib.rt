@@ -7,8 +7,7 @@ ghost use Rattle.rules.specs.Rows.{cursor_key};
 ghost use Rattle.rules.specs.Answer.{PageSound, PageSays, PageIs};
 ghost use Rattle.flat.specs.Flat.{rows_in, papers_in, Packed, KeysRise};
 
-use rules::{Book, Cursor, Map, Paged, Refusal, Row};
-use vet::Verdict;
+use rules::{Book, Cursor, Map, Refusal, Row, Shown};
 
 // A page where map and book are sound, on a map of n places: 10, 11, 6, or the rows after the cursor.
 fn page_sound(
@@ -19,34 +18,23 @@ fn page_sound(
     size: u32,
     c: Cursor,
     out: &mut [u8],
-) -> Paged
+) -> Result<Shown, Refusal>
     requires count_bound { count ≤ 1024 }
     requires keys_rise { KeysRise key.now count }
     requires packed { Packed key.now }
     ensures { (Y : Yard) → Y.places ≡ n → PageSound Y (rows_in key.now tail.now count) size (cursor_key c) out.old out.new result }
 {
-    if size == 0 {
-        return Paged::Refused(Refusal::BadSize);
-    }
-    if size > Cursor::PAGE {
-        return Paged::Refused(Refusal::BadSize);
+    if size == 0 || size > Cursor::PAGE {
+        return Err(Refusal::BadSize);
     }
     let p = c.place as usize;
-    if p >= n {
-        return Paged::Refused(Refusal::BadCursor);
+    if p >= n || c.entry > Map::DAY || c.ticket >= Book::TICKETS {
+        return Err(Refusal::BadCursor);
     }
-    if c.entry > Map::DAY {
-        return Paged::Refused(Refusal::BadCursor);
+    if out.len() / Row::BYTES < size as usize {
+        return Err(Refusal::ShortList);
     }
-    if c.ticket >= Book::TICKETS {
-        return Paged::Refused(Refusal::BadCursor);
-    }
-    let asked = size as usize;
-    if out.len() / Row::BYTES < asked {
-        return Paged::Refused(Refusal::ShortList);
-    }
-    let s = pages::page_of(count, key, tail, size, c, out);
-    Paged::Done(s)
+    Ok(pages::page_of(count, key, tail, size, c, out))
 }
 
 // A page over arrays: 1, 2, 10, 11, 6, or the rows after the cursor.
@@ -64,7 +52,7 @@ pub fn page_flat(
     size: u32,
     c: Cursor,
     out: &mut [u8],
-) -> Paged
+) -> Result<Shown, Refusal>
     requires { Packed key.now }
     ensures { PageSays (papers_in cap.now dur.now from.now to.now n k key.now tail.now count next_ticket) size (cursor_key c) out.old out.new result }
 {
@@ -74,7 +62,7 @@ pub fn page_flat(
     let mut start = [0u32; 1280];
     let mut end = [0u32; 1280];
     let mut first = [0u16; 257];
-    let found = vet::vet(
+    vet::vet(
         n,
         k,
         cap,
@@ -91,16 +79,12 @@ pub fn page_flat(
         &mut end,
         &mut place,
         &mut first,
-    );
-    let v = vet::judged(found);
-    match v {
-        Verdict::Refused(r) => Paged::Refused(r),
-        Verdict::Sound(_) => page_sound(n, count, key, tail, size, c, out),
-    }
+    )?;
+    page_sound(n, count, key, tail, size, c, out)
 }
 
 // The rows of the book after a cursor: they are written to the caller's list.
-pub fn page(m: Map, b: Book, size: u32, c: Cursor, out: &mut [u8]) -> Paged
+pub fn page(m: Map, b: Book, size: u32, c: Cursor, out: &mut [u8]) -> Result<Shown, Refusal>
     ensures { PageIs m b size (cursor_key c) out.old out.new result }
 {
     let mut cap = [0u8; 256];

@@ -1,8 +1,8 @@
 -- The answer of a search as a path of windows, and the rows of a path.
 use Prim.Native.Nat.{ℕ, zero, suc, ◌+◌, ◌≤◌, ◌<◌}
-use Rattle.std.specs.Prelude.{◌≡◌, ◌⊎◌, length, take}
+use Rattle.std.specs.Prelude.{◌≡◌, ◌⊎◌, Option, Some, None, length, take}
 use Rattle.std.proofs.Math.Path.{refl}
-use Rattle.std.proofs.Common.{sym, ap, subst, subst₂, ◌∙◌, ⊎_elim, arith, get_or-take, length-take-le, take-suc, take_all, add-one}
+use Rattle.std.proofs.Common.{sym, ap, subst, ◌∙◌, ⊎_elim, arith, get_or-take, length-take-le, take-suc, take_all, add-one}
 use mathlib.Core.List.{List, [], ◌∷◌, ◌++◌}
 use Rattle.laws.specs.Order.{lt_or_ge}
 use Rattle.laws.specs.Lists.{at}
@@ -17,69 +17,84 @@ use Rattle.wire.specs.Written.{PutAt, written_next}
 use Rattle.rules.specs.Rows.{load, row_at, no_row}
 use Rattle.lanes.specs.Entries.{entry_or_mark}
 use Rattle.flat.specs.Flat.{yard_in, span_at}
-use Rattle.settle.specs.Search.{Answer}
-use Rattle.search.specs.Offers.{BeginsAt, Row1}
+use Rattle.settle.specs.Search.{Reached, Unreached}
+use Rattle.search.specs.Offers.{Begins, BeginsAt}
 use Rattle.search.specs.Relax.{next_by}
 use Rattle.search.specs.Lanes.{Lanes, is_at_dest}
 use Rattle.search.specs.Trail.{Trailed, trailed_fits, trailed_last}
-use Rattle.planner.specs.Choice.{stay_of, plan_of, OnDay, found_chosen, found_good, entries_found}
+use Rattle.planner.specs.Choice.{stay_of, plan_of, OnDay, none_begins, none_found, entries_unbegun, entries_none, found_chosen, found_good, entries_found}
 
--- r windows of path are the chosen plan; 0 where no plan is permitted. The labels of all windows are their earliest entries, up to the entry into
--- the plan's last window; where no plan is permitted, of the whole day.
-pub record Routed (Y : Yard) (rows : List Row) (start dest s m : ℕ) (D P S E lab path : List ℕ) (r : ℕ) : Type 0 where
+-- r windows of path are the chosen plan; the labels of all windows are their earliest entries, up to the entry into the plan's last window
+pub record RouteIs (Y : Yard) (rows : List Row) (start dest s m : ℕ) (D P S E lab path : List ℕ) (r : ℕ) : Type 0 where
+  pub some : 0 < r
   pub few : r ≤ plan_limit
-  pub none : r ≡ 0 → (plan : List Stay) → Permitted Y rows start dest s plan → ⊥
-  pub chosen : 0 < r → Chosen Y rows start dest s (plan_of D P lab (take r path))
+  pub chosen : Chosen Y rows start dest s (plan_of D P lab (take r path))
   pub entries : (i : ℕ) → suc i ≡ r → Entries Y rows start s m (span_at P S E) (at lab) (at lab (at path i))
-  pub all_entries : r ≡ 0 → Entries Y rows start s m (span_at P S E) (at lab) day
   pub marked : (v : ℕ) → v < m → at lab v ≤ 86401
   pub on_day : OnDay m lab (take r path)
   pub long : length path ≡ 1280
 
-pub begins_as : {S E : List ℕ} {a b a' b' s d r : ℕ} → a ≡ a' → b ≡ b' → BeginsAt S E a b s d r → BeginsAt S E a' b' s d r
-begins_as {S} {E} {s = s} {d = d} {r = r} e f B = subst₂ (λ x y. BeginsAt S E x y s d r) e f B
+-- no plan is permitted; the labels of all windows are their earliest entries of the whole day
+pub record NoRoute (Y : Yard) (rows : List Row) (start dest s m : ℕ) (D P S E lab path : List ℕ) : Type 0 where
+  pub none : (plan : List Stay) → Permitted Y rows start dest s plan → ⊥
+  pub all_entries : Entries Y rows start s m (span_at P S E) (at lab) day
+  pub marked : (v : ℕ) → v < m → at lab v ≤ 86401
+  pub long : length path ≡ 1280
 
-pub row_as : {S E : List ℕ} {a b a' b' d : ℕ} → a ≡ a' → b ≡ b' → Row1 S E a b d → Row1 S E a' b' d
-row_as {S} {E} {d = d} e f R = subst₂ (λ x y. Row1 S E x y d) e f R
+abbrev pub Routed : (Y : Yard) (rows : List Row) (start dest s m : ℕ) (D P S E lab path : List ℕ) → Option ℕ → Type 0
+Routed Y rows start dest s m D P S E lab path None = NoRoute Y rows start dest s m D P S E lab path
+Routed Y rows start dest s m D P S E lab path (Some r) = RouteIs Y rows start dest s m D P S E lab path r
 
-pub routed_none : {Y : Yard} {rows : List Row} {start dest s m : ℕ} {D P S E lab path : List ℕ} → ((plan : List Stay) → Permitted Y rows start dest s plan → ⊥)
-    → Entries Y rows start s m (span_at P S E) (at lab) day → ((v : ℕ) → v < m → at lab v ≤ 86401) → length path ≡ 1280
-    → Routed Y rows start dest s m D P S E lab path 0
-routed_none f t k l = record {
-  few = omega arith;
-  none = λ _. f;
-  chosen = λ h. absurd (omega arith);
-  entries = λ i e. absurd (omega arith);
-  all_entries = λ _. t;
-  marked = k;
-  on_day = record { window = λ i h. absurd (omega arith); label = λ i h. absurd (omega arith) };
-  long = l;
-}
+module _ {C D F T H N : List ℕ} {n k : ℕ} {rows : List Row} {c : ℕ} {P S E I : List ℕ} {m : ℕ} (L : Lanes C D F T H N n k rows c P S E I m)
+    (booked : (p t : ℕ) → p < (yard_in C D n F T k).places → load rows p t ≤ (yard_in C D n F T k).cap p)
+    (start dest s : ℕ) (on : (start < n) × (dest < n) × (s ≤ day))
+  where
+    abbrev Y : Yard
+    Y = yard_in C D n F T k
 
-pub routed_found : {C D F T H N : List ℕ} {n k : ℕ} {rows : List Row} {c : ℕ} {P S E I : List ℕ} {m : ℕ} (L : Lanes C D F T H N n k rows c P S E I m)
-    → ((p t : ℕ) → p < (yard_in C D n F T k).places → load rows p t ≤ (yard_in C D n F T k).cap p)
-    → (start dest s : ℕ) → start < n → dest < n → {src : ℕ} → s ≤ day → BeginsAt S E (at I start) (at I (start + 1)) s (at D start) src → src < 1280
-    → {lab bef : List ℕ} {g : ℕ} → Answer m (next_by (yard_in C D n F T k) rows P S E) (is_at_dest P dest) src s lab bef g → g < 1280
-    → {path : List ℕ} {r : ℕ} → Trailed lab bef g r path → Routed (yard_in C D n F T k) rows start dest s m D P S E lab path r
-routed_found {C} {D} {F} {T} {n = n} {k = k} {rows = rows} {P = P} {S = S} {E = E} {m = m} L booked start dest s a b sh B h {lab = lab} A gh T' = record {
-  few = trailed_fits gh T';
-  none = λ e. absurd (omega (arith, T'.some));
-  chosen = λ _. found_chosen L booked start dest s a b sh B h A gh T'.trail;
-  entries = λ i e. subst (λ w. Entries (yard_in C D n F T k) rows start s m (span_at P S E) (at lab) (at lab w)) (sym (trailed_last (trailed_fits gh T') T' i e)) (entries_found L booked start dest s a b sh B h A gh);
-  all_entries = λ e. absurd (omega (arith, T'.some));
-  marked = λ v h. A.marked v;
-  on_day = found_good L booked start dest s a b sh B h A gh T'.trail;
-  long = T'.long;
-}
+    -- no window to begin in
+    pub routed_unbegun : BeginsAt S E (at I start) (at I (start + 1)) s (at D start) None → (lab path : List ℕ) {r : Option ℕ} → r ≡ None
+        → ((v : ℕ) → v < 1280 → at lab v ≡ 86401) → length path ≡ 1280 → Routed Y rows start dest s m D P S E lab path r
+    routed_unbegun B lab path e far l = rw e (record {
+      none = none_begins L booked start dest s on.0 on.1 B;
+      all_entries = entries_unbegun L booked start dest s on.0 on.1 B far;
+      marked = λ v h. omega (arith, far v (omega (arith, L.few)));
+      long = l;
+    })
+
+    module _ {src : ℕ} (B : Begins S E (at I start) (at I (start + 1)) s (at D start) src) {lab : List ℕ} where
+      -- no window of the destination reached
+      pub routed_unreached : Unreached m (next_by Y rows P S E) (is_at_dest P dest) src s lab → (path : List ℕ) {r : Option ℕ} → r ≡ None → length path ≡ 1280
+          → Routed Y rows start dest s m D P S E lab path r
+      routed_unreached A path e l = rw e (record {
+        none = none_found L booked start dest s on.0 on.1 on.2 B A;
+        all_entries = entries_none L booked start dest s on.0 on.1 on.2 B A;
+        marked = λ v h. A.marked v;
+        long = l;
+      })
+
+      pub routed_found : {bef : List ℕ} {g : ℕ} → Reached m (next_by Y rows P S E) (is_at_dest P dest) src s lab bef g → {path : List ℕ} {r : ℕ} → Trailed lab bef g r path
+          → Routed Y rows start dest s m D P S E lab path (Some r)
+      routed_found A T' =
+          let f = trailed_fits A.within T' in
+          record {
+            some = T'.some;
+            few = f;
+            chosen = found_chosen L booked start dest s on.0 on.1 on.2 B A T'.trail;
+            entries = λ i e. subst (λ w. Entries Y rows start s m (span_at P S E) (at lab) (at lab w)) (sym (trailed_last f T' i e)) (entries_found L booked start dest s on.0 on.1 on.2 B A);
+            marked = λ v h. A.marked v;
+            on_day = found_good L booked start dest s on.0 on.1 on.2 B A T'.trail;
+            long = T'.long;
+          }
 
 -- where no plan is permitted, each window's label is "the least second at which any permitted plan's beginning can enter it", or it is the mark
 -- and none can enter it
-pub every_entry : {Y : Yard} {rows : List Row} {start dest s m : ℕ} {D P S E lab path : List ℕ} {r : ℕ} → Routed Y rows start dest s m D P S E lab path r → r ≡ 0
+pub every_entry : {Y : Yard} {rows : List Row} {start dest s m : ℕ} {D P S E lab path : List ℕ} → Routed Y rows start dest s m D P S E lab path None
     → (i : ℕ) → i < m → Earliest Y rows start s (span_at P S E i) (at lab i) ⊎ ((at lab i ≡ 86401) × ((t : ℕ) → Enters Y rows start s (span_at P S E i) t → ⊥))
-every_entry {Y} {rows} {start} {dest} {s} {m} {D} {P} {S} {E} {lab} R e = entry_or_mark Y rows start s m (span_at P S E) {label = at lab} (R.all_entries e) R.marked
+every_entry {Y} {rows} {start} {dest} {s} {m} {D} {P} {S} {E} {lab} R = entry_or_mark Y rows start s m (span_at P S E) {label = at lab} R.all_entries R.marked
 
 -- and where there is one, each window that can be entered by the plan's last entry has its earliest entry
-pub sooner_entry : {Y : Yard} {rows : List Row} {start dest s m : ℕ} {D P S E lab path : List ℕ} {r : ℕ} → Routed Y rows start dest s m D P S E lab path r → (k : ℕ) → suc k ≡ r
+pub sooner_entry : {Y : Yard} {rows : List Row} {start dest s m : ℕ} {D P S E lab path : List ℕ} {r : ℕ} → Routed Y rows start dest s m D P S E lab path (Some r) → (k : ℕ) → suc k ≡ r
     → (i t : ℕ) → i < m → Enters Y rows start s (span_at P S E i) t → t ≤ at lab (at path k) → Earliest Y rows start s (span_at P S E i) (at lab i)
 sooner_entry {lab = lab} {path = path} R k e i t h n l =
     ⊎_elim (λ (c : at lab (at path k) < at lab i). absurd (omega (arith, (R.entries k e).after i t h c n))) (λ (c : at lab i ≤ at lab (at path k)). (R.entries k e).earliest i h c) (lt_or_ge (at lab (at path k)) (at lab i))
@@ -162,9 +177,6 @@ pub record Writing (R : List Row) (was : List ℕ) (count j : ℕ) (out : List �
   pub within : j ≤ count
   pub holds : out ≡ written (take j R) was
   pub long : length out ≡ length was
-
-pub writing_start : (R : List Row) (was : List ℕ) (count : ℕ) → Writing R was count 0 was
-writing_start R was count = record { within = omega arith; holds = refl; long = refl }
 
 pub writing_next : {R : List Row} {was : List ℕ} {count j : ℕ} {out out' : List ℕ} {r : Row} → length R ≡ count → j < count → r ≡ row_at R j → Writing R was count j out → PutAt r j out out' → Writing R was count (j + 1) out'
 writing_next {R} {was} {count} {j} {out} {out'} {r} l h e I P =

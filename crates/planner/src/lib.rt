@@ -12,19 +12,7 @@ ghost use Rattle.search.specs.Lanes.{Lanes};
 ghost use Rattle.planner.specs.Choice.{plan_of};
 ghost use Rattle.planner.specs.Route.{Routed, PathFits};
 
-use rules::{Row, Trip};
-
-fn wide(x: u8) -> usize
-    ensures { (result ≡ x) × (result < 256) }
-{
-    x as usize
-}
-
-fn broad(x: u16) -> usize
-    ensures { (result ≡ x) × (result < 65536) }
-{
-    x as usize
-}
+use rules::Row;
 
 // The row at k of the first count windows of a path, under a ticket: it is left when the next is entered, the last after its place's duration.
 pub fn step_at(
@@ -40,20 +28,17 @@ pub fn step_at(
     requires k_lt_count { k < count }
     ensures { result ≡ row_at (run_rows ticket (plan_of dur.now place.now label.now (take count path.now))) k }
 {
-    let w = broad(path[k]);
+    let w = path[k] as usize;
     let p = place[w];
     let e = label[w];
     if k + 1 < count {
-        let v = broad(path[k + 1]);
-        let x = label[v];
-        let q = place[v];
-        return Row::new(p, e, ticket, x, q);
+        let v = path[k + 1] as usize;
+        return Row::new(p, e, ticket, label[v], place[v]);
     }
-    let d = dur[wide(p)];
-    Row::new(p, e, ticket, e + d, p)
+    Row::new(p, e, ticket, e + dur[p as usize], p)
 }
 
-// The chosen plan from `origin` to `dest` at s as windows of path, in travel order: how many, 0 where no plan is permitted; and each window's
+// The chosen plan from `origin` to `dest` at s as windows of path, in travel order: how many, none where no plan is permitted; and each window's
 // earliest entry as its label, up to the plan's last entry, or all of them where no plan is permitted.
 pub fn route(
     places: usize,
@@ -77,7 +62,7 @@ pub fn route(
     s: u32,
     label: &mut [u32; 1280],
     path: &mut [u16; 1280],
-) -> usize
+) -> Option<usize>
     requires lanes { Lanes cap.now dur.now from.now to.now head.now chain.now places links (rows_in key.now tail.now n) n place.now start.now end.now first.now windows }
     requires by_index { (p t : ℕ) → p < (yard_in cap.now dur.now places from.now to.now links).places → load (rows_in key.now tail.now n) p t ≤ (yard_in cap.now dur.now places from.now to.now links).cap p }
     requires origin_lt_places { (origin < places) × (dest < places) × (s ≤ day) }
@@ -85,13 +70,9 @@ pub fn route(
     requires label_len { (length label.old ≡ 1280) × (length path.old ≡ 1280) }
     ensures { Routed (yard_in cap.now dur.now places from.now to.now links) (rows_in key.now tail.now n) origin dest s windows dur.now place.now start.now end.now label.new path.new result }
 {
-    let a = broad(first[origin]);
-    let b = broad(first[origin + 1]);
-    let d = dur[origin];
-    let src = search::begin_at(start, end, a, b, s, d);
-    if src >= Trip::STAYS {
-        return 0;
-    }
+    let a = first[origin] as usize;
+    let b = first[origin + 1] as usize;
+    let src = search::begin_at(start, end, a, b, s, dur[origin])?;
     let mut before = [0u16; 1280];
     let g = search::search(
         places,
@@ -115,11 +96,8 @@ pub fn route(
         dest,
         label,
         &mut before,
-    );
-    if g >= Trip::STAYS {
-        return 0;
-    }
-    search::trail(&before, label, g, path)
+    )?;
+    Some(search::trail(&before, label, g, path))
 }
 
 // The rows of a path over the first records of the caller's list, with ticket 0.
@@ -135,10 +113,8 @@ pub fn write_plan(
     requires count_in_bounds { row_size * count ≤ length out.old }
     ensures { out.new ≡ written (run_rows 0 (plan_of dur.now place.now label.now (take count path.now))) out.old }
 {
-    let mut j: usize = 0;
-    while j < count {
+    for j in 0..count {
         let r = step_at(dur, place, label, path, count, j, 0);
         wire::put_at(r, j, out);
-        j += 1;
     }
 }

@@ -3,10 +3,17 @@
 
 ghost use Rattle.rules.specs.Answer.{PlanIs};
 
-use rules::{Book, Map, Planned};
+use rules::{Book, Map, Refusal, Trip};
 
 // The earliest permitted plan from start to destination at a second beside the book: its rows are written to the caller's list.
-pub fn plan(m: Map, b: Book, start: u32, destination: u32, second: u32, out: &mut [u8]) -> Planned
+pub fn plan(
+    m: Map,
+    b: Book,
+    start: u32,
+    destination: u32,
+    second: u32,
+    out: &mut [u8],
+) -> Result<Trip, Refusal>
     ensures { PlanIs m b start destination second out.old out.new result }
 {
     let mut cap = [0u8; 256];

@@ -4,12 +4,10 @@ use Rattle.std.specs.Prelude.{ℕ, ◌+◌, ◌*◌, ◌≡◌, refl, Bool, true
 use Rattle.std.proofs.Common.{sym, ap₂, subst, ⊎_elim, arith}
 use Rattle.laws.specs.Tests.{Decides, true_or_false}
 use Rattle.laws.specs.Lists.{at}
-use Rattle.rules.specs.declared.Planned.{Planned}
-use Rattle.rules.specs.declared.Paged.{Paged}
 use Rattle.rules.specs.Map.{Yard, yard_of, MapRules}
 use Rattle.rules.specs.Rows.{Key, bit}
 use Rattle.rules.specs.Book.{Counted}
-use Rattle.rules.specs.Answer.{PlanSays, PageSays, planned_number, planned_arrival, planned_count, paged_number, paged_count, paged_more}
+use Rattle.rules.specs.Answer.{Planned, Paged, PlanSays, PageSays, answer_number, planned_arrival, planned_count, paged_count, paged_more}
 use Rattle.rules.specs.Bytes.{num2, place_size}
 use Rattle.rules.specs.Gate.{Papers}
 use Rattle.rules.specs.GateLaws.{SamePapers}
@@ -135,9 +133,9 @@ module _ {map book C D F T K X : List ℕ} {n k count ticket : ℕ} (M : MapRead
   }
 
   pub portal_plan : {start dest s : ℕ} {was out : List ℕ} {p : Planned} {r : ℕ} → PlanSays arrays start dest s was out p
-      → r ≡ one_number (planned_number p) (planned_arrival p) (planned_count p) → PortalPlan map book start dest s was out r
+      → r ≡ one_number (answer_number p) (planned_arrival p) (planned_count p) → PortalPlan map book start dest s was out r
   portal_plan {p = p} x e = record { answer = p; says = plan_as read x; result = e }
 
   pub portal_page : {size : ℕ} {c : Key} {was out : List ℕ} {p : Paged} {r : ℕ} → PageSays arrays size c was out p
-      → r ≡ one_number (paged_number p) (bit (paged_more p)) (paged_count p) → PortalPage map book size c was out r
+      → r ≡ one_number (answer_number p) (bit (paged_more p)) (paged_count p) → PortalPage map book size c was out r
   portal_page {p = p} x e = record { answer = p; says = page_as read x; result = e }

@@ -5,11 +5,11 @@ ghost use Rattle.std.specs.Prelude.{◌≡◌, ℕ, ◌≤◌, length};
 ghost use Rattle.laws.specs.Lists.{at};
 ghost use Rattle.rules.specs.Limits.{row_limit};
 ghost use Rattle.rules.specs.Rows.{bit};
-ghost use Rattle.rules.specs.Answer.{planned_number, planned_arrival, planned_count, paged_number, paged_count, paged_more};
+ghost use Rattle.rules.specs.Answer.{answer_number, planned_arrival, planned_count, paged_count, paged_more};
 ghost use Rattle.rules.specs.Portal.{one_number, PortalPlan, PortalPage};
 ghost use Rattle.portal.specs.Read.{MapRead, BookRead};
 
-use rules::{Book, Cursor, Paged, Place, Planned};
+use rules::{Book, Cursor, Place, Refusal, Shown, Trip};
 
 // What stands before a map slice's places and links.
 #[derive(Clone, Copy)]
@@ -77,30 +77,32 @@ fn read_book(s: &[u8], key: &mut [u64; 1024], tail: &mut [u32; 1024]) -> BookHea
     }
 }
 
+// A refusal as one number: its own, and the row that it names.
+fn packed_refusal(r: Refusal) -> u64
+    ensures { result ≡ one_number (number r) 0 (fault_row r) }
+{
+    u64::from(r.number()) * 4294967296 + r.row() as u64
+}
+
 // A plan's answer as one number.
-fn packed_plan(p: Planned) -> u64
+fn packed_plan(p: Result<Trip, Refusal>) -> u64
     requires { planned_count p ≤ 1844674407370955161 }
-    ensures { result ≡ one_number (planned_number p) (planned_arrival p) (planned_count p) }
+    ensures { result ≡ one_number (answer_number p) (planned_arrival p) (planned_count p) }
 {
     match p {
-        Planned::Done(t) => (t.arrival as u64) * 2048 + (t.count as u64),
-        Planned::Refused(r) => (r.number() as u64) * 4294967296 + (r.row() as u64),
+        Ok(t) => u64::from(t.arrival) * 2048 + t.count as u64,
+        Err(r) => packed_refusal(r),
     }
 }
 
 // A page's answer as one number.
-fn packed_page(p: Paged) -> u64
+fn packed_page(p: Result<Shown, Refusal>) -> u64
     requires { paged_count p ≤ row_limit }
-    ensures { result ≡ one_number (paged_number p) (bit (paged_more p)) (paged_count p) }
+    ensures { result ≡ one_number (answer_number p) (bit (paged_more p)) (paged_count p) }
 {
     match p {
-        Paged::Done(s) => {
-            if s.more {
-                return 2048 + (s.count as u64);
-            }
-            s.count as u64
-        }
-        Paged::Refused(r) => (r.number() as u64) * 4294967296 + (r.row() as u64),
+        Ok(s) => u64::from(s.more) * 2048 + s.count as u64,
+        Err(r) => packed_refusal(r),
     }
 }
 

@@ -7,10 +7,10 @@ use mathlib.Core.List.{List, ◌++◌, Memᴰ}
 use Rattle.laws.specs.Order.{lt_or_ge}
 use Rattle.laws.specs.Lists.{index_mem}
 use Rattle.rules.specs.declared.Row.{Row}
+use Rattle.rules.specs.declared.Trip.{Trip}
+use Rattle.rules.specs.declared.Shown.{Shown}
 use Rattle.rules.specs.declared.Map.{Map}
 use Rattle.rules.specs.declared.Book.{Book}
-use Rattle.rules.specs.declared.Planned.{Planned}
-use Rattle.rules.specs.declared.Paged.{Paged}
 use Rattle.rules.specs.Limits.{plan_limit, page_limit}
 use Rattle.rules.specs.Map.{GoodMap, map_yard}
 use Rattle.rules.specs.Rows.{Key, row_key, first_key, no_row, row_at, lessb}
@@ -22,7 +22,7 @@ use Rattle.rules.specs.Bytes.{row_size, records, list_size}
 use Rattle.rules.specs.ByteLaws.{RowFits}
 use Rattle.rules.specs.Gate.{Unless, papers_of}
 use Rattle.rules.specs.GateLaws.{instead, checked_as, same_papers}
-use Rattle.rules.specs.Answer.{rows_done, Planning, PlanIs, PlanRecords, PlanRefused, PlanDone, planned_rows, PagingIs, PageIs, PageRecords, PageRefused, PageDone, paged_rows, over}
+use Rattle.rules.specs.Answer.{Planned, Paged, rows_done, Planning, PlanIs, PlanRecords, PlanRefused, PlanDone, planned_rows, PagingIs, PageIs, PageRecords, PageRefused, PageDone, paged_rows, over}
 use Rattle.lanes.specs.Yards.{YardRules, yard_rules}
 use Rattle.lanes.specs.Windows.{ends}
 use Rattle.lanes.specs.Chosen.{chosen_best}
@@ -31,8 +31,7 @@ use Rattle.keeping.specs.Changes.{mem_keep}
 use Rattle.keeping.specs.Keeping.{row_fits}
 use Rattle.keeping.specs.Books.{book_formed}
 use Rattle.desk.specs.Few.{no_stays, no_rows, plan_within, page_within, page_short}
-use Rattle.records.specs.declared.FoundPlan.{FoundPlan}
-use Rattle.records.specs.declared.FoundPage.{FoundPage}
+use Rattle.records.specs.declared.Found.{Found}
 use Rattle.records.specs.Few.{chosen_few}
 use Rattle.records.specs.Reading.{RowsRead, read_all, StayFits, run_fits}
 
@@ -78,7 +77,7 @@ put_all {n} got rows was e f = ap (λ (l : List Row). l ++ drop n was) f ∙ ap 
 -- ---- plan
 
 -- what is found for a plan: over any list with this room it is the answer of the call on records
-pub record PlanFound (m : Map) (b : Book) (start dest s room : ℕ) (f : FoundPlan) : Type 0 where
+pub record PlanFound (m : Map) (b : Book) (start dest s room : ℕ) (f : Found Trip) : Type 0 where
   pub few : f.count ≤ plan_limit
   pub fits : f.count ≤ room
   pub says : (was : List Row) → length was ≡ room → PlanRecords m b start dest s was (put f.count f.rows was) f.answer
@@ -147,7 +146,7 @@ module _ {m : Map} {b : Book} {start dest s room n : ℕ} (L : Lent room n) (z :
 -- ---- page
 
 -- what is found for a page: over any list with this room it is the answer of the call on records
-pub record PageFound (m : Map) (b : Book) (size : ℕ) (k : Key) (room : ℕ) (f : FoundPage) : Type 0 where
+pub record PageFound (m : Map) (b : Book) (size : ℕ) (k : Key) (room : ℕ) (f : Found Shown) : Type 0 where
   pub few : f.count ≤ plan_limit
   pub fits : f.count ≤ room
   pub says : (was : List Row) → length was ≡ room → PageRecords m b size k was (put f.count f.rows was) f.answer

@@ -6,8 +6,6 @@ use Rattle.std.proofs.Common.{sym, ap, ap₂, subst, ◌∙◌, ⊎_elim, append
 use Rattle.std.proofs.lemmas.List.{drop-append-le}
 use Rattle.laws.specs.Lists.{index_mem}
 use Rattle.rules.specs.declared.Row.{Row}
-use Rattle.rules.specs.declared.Planned.{Planned}
-use Rattle.rules.specs.declared.Paged.{Paged}
 use Rattle.rules.specs.declared.Map.{Map}
 use Rattle.rules.specs.declared.Book.{Book}
 use Rattle.rules.specs.Map.{map_yard}
@@ -16,8 +14,8 @@ use Rattle.rules.specs.Plan.{Stay, arrival, run_rows}
 use Rattle.rules.specs.Book.{GoodBook, book_of}
 use Rattle.rules.specs.Gate.{Unless}
 use Rattle.rules.specs.GateLaws.{past, passed}
-use Rattle.rules.specs.Answer.{Planning, PlanRefused, PlanAnswers, PlanRecords, planned_number, planned_arrival, planned_rows}
-use Rattle.rules.specs.Answer.{rows_done, PagingIs, PageRefused, PageRecords, paged_number, paged_rows, paged_more, over}
+use Rattle.rules.specs.Answer.{Planned, Paged, Planning, PlanRefused, PlanAnswers, PlanRecords, answer_number, planned_arrival, planned_rows}
+use Rattle.rules.specs.Answer.{rows_done, PagingIs, PageRefused, PageRecords, answer_number, paged_rows, paged_more, over}
 use Rattle.keeping.specs.Books.{rows_of_book, good_book}
 use Rattle.cases.specs.Maps.{yard, arrays, barn_good}
 use Rattle.cases.specs.Past.{rows_now, book_now}
@@ -87,9 +85,9 @@ plan_left {was} {out} {r} h =
 
 pub record PlanOn (n : ℕ) (rows : List Row) (a : Planned) : Type 0 where
   pub short_rows : n < 3 → rows ≡ marks
-  pub short_code : n < 3 → planned_number a ≡ 6
+  pub short_code : n < 3 → answer_number a ≡ 6
   pub rows_are : 3 ≤ n → rows ≡ planned
-  pub code : 3 ≤ n → planned_number a ≡ 0
+  pub code : 3 ≤ n → answer_number a ≡ 0
   pub arrives : 3 ≤ n → planned_arrival a ≡ 60
   pub counts : 3 ≤ n → planned_rows a ≡ 3
 
@@ -128,9 +126,9 @@ page_left {was} {out} {r} h = past (record { place = omega arith; entry = omega 
 
 pub record PageOn (n : ℕ) (rows : List Row) (a : Paged) : Type 0 where
   pub short_rows : n < 2 → rows ≡ marks
-  pub short_code : n < 2 → paged_number a ≡ 6
+  pub short_code : n < 2 → answer_number a ≡ 6
   pub rows_are : 2 ≤ n → rows ≡ paged
-  pub code : 2 ≤ n → paged_number a ≡ 0
+  pub code : 2 ≤ n → answer_number a ≡ 0
   pub counts : 2 ≤ n → paged_rows a ≡ 2
   pub more : 2 ≤ n → paged_more a ≡ true
 

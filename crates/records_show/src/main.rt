@@ -8,19 +8,14 @@ ghost use Rattle.rules.specs.Rows.{cursor_key};
 ghost use Rattle.rules.specs.Answer.{PlanRecords, PageRecords};
 ghost use Rattle.records_show.specs.Shown.{barn_map, marks, planned, paged, both_book, PlanOn, PageOn};
 
-use rules::{Book, Cursor, Link, Map, Paged, Place, Planned, Row};
+use rules::{Book, Cursor, Link, Map, Place, Refusal, Row, Shown, Trip};
 use std::io;
 
+// Eight records after a call, and its answer.
 #[derive(Clone, Copy)]
-struct PlanShown {
+struct After<T> {
     rows: [Row; 8],
-    answer: Planned,
-}
-
-#[derive(Clone, Copy)]
-struct PageShown {
-    rows: [Row; 8],
-    answer: Paged,
+    answer: Result<T, Refusal>,
 }
 
 // The first n of eight records are lent to the plan.
@@ -32,40 +27,30 @@ fn lend_plan(
     second: u32,
     rows: [Row; 8],
     n: usize,
-) -> PlanShown
+) -> After<Trip>
     requires { n ≤ 8 }
     ensures { PlanRecords m b start destination second (take n rows) (take n result.rows) result.answer × (drop n result.rows ≡ drop n rows) }
 {
     let mut list = rows;
-    let a = records::plan_rows(m, b, start, destination, second, &mut list[..n]);
-    PlanShown {
-        rows: list,
-        answer: a,
-    }
+    let answer = records::plan_rows(m, b, start, destination, second, &mut list[..n]);
+    After { rows: list, answer }
 }
 
 // The first n of eight records are lent to the page.
-fn lend_page(m: Map, b: Book, size: u32, c: Cursor, rows: [Row; 8], n: usize) -> PageShown
+fn lend_page(m: Map, b: Book, size: u32, c: Cursor, rows: [Row; 8], n: usize) -> After<Shown>
     requires { n ≤ 8 }
     ensures { PageRecords m b size (cursor_key c) (take n rows) (take n result.rows) result.answer × (drop n result.rows ≡ drop n rows) }
 {
     let mut list = rows;
-    let a = records::page_rows(m, b, size, c, &mut list[..n]);
-    PageShown {
-        rows: list,
-        answer: a,
-    }
+    let answer = records::page_rows(m, b, size, c, &mut list[..n]);
+    After { rows: list, answer }
 }
 
 // "place 0 capacity 2 duration 10; 1, 2, 3 capacity 1, durations 20, 30, 10", with the links 0 to 1, 1 to 3, 0 to 2, 2 to 3, 3 to 1, 1 to 0.
 fn barn() -> Map
     ensures { result ≡ barn_map }
 {
-    let no_place = Place {
-        capacity: 0,
-        duration: 0,
-    };
-    let mut places = [no_place; Map::PLACES];
+    let mut places = [Place::default(); Map::PLACES];
     places[0] = Place {
         capacity: 2,
         duration: 10,
@@ -82,8 +67,7 @@ fn barn() -> Map
         capacity: 1,
         duration: 10,
     };
-    let no_link = Link { from: 0, to: 0 };
-    let mut links = [no_link; Map::LINKS];
+    let mut links = [Link::default(); Map::LINKS];
     links[0] = Link { from: 0, to: 1 };
     links[1] = Link { from: 1, to: 3 };
     links[2] = Link { from: 0, to: 2 };
@@ -91,8 +75,8 @@ fn barn() -> Map
     links[4] = Link { from: 3, to: 1 };
     links[5] = Link { from: 1, to: 0 };
     Map {
-        places: places,
-        links: links,
+        places,
+        links,
         place_count: 4,
         link_count: 6,
     }
@@ -102,8 +86,7 @@ fn barn() -> Map
 fn booked() -> Book
     ensures { result ≡ both_book }
 {
-    let none = Row::none();
-    let mut rows = [none; Book::ROWS];
+    let mut rows = [Row::none(); Book::ROWS];
     rows[0] = Row::new(0, 0, 1, 10, 1);
     rows[1] = Row::new(0, 0, 2, 10, 2);
     rows[2] = Row::new(1, 10, 1, 30, 3);
@@ -111,7 +94,7 @@ fn booked() -> Book
     rows[4] = Row::new(3, 30, 1, 40, 3);
     rows[5] = Row::new(3, 40, 2, 50, 3);
     Book {
-        rows: rows,
+        rows,
         count: 6,
         next_ticket: 3,
     }
@@ -121,8 +104,7 @@ fn booked() -> Book
 fn marked() -> [Row; 8]
     ensures { result ≡ marks }
 {
-    let mark = Row::new(9, 9, 9, 9, 9);
-    [mark; 8]
+    [Row::new(9, 9, 9, 9, 9); 8]
 }
 
 // The same with the plan's three rows in front.
@@ -146,61 +128,27 @@ fn paged_rows() -> [Row; 8]
     rows
 }
 
-fn same_row(x: Row, y: Row) -> bool
-    ensures { Decides result (x ≡ y) }
-{
-    if x.place != y.place {
-        return false;
-    }
-    if x.entry != y.entry {
-        return false;
-    }
-    if x.ticket != y.ticket {
-        return false;
-    }
-    if x.exit != y.exit {
-        return false;
-    }
-    x.next == y.next
-}
-
 // All eight records are equal, each to its own.
 fn same_rows(a: [Row; 8], b: [Row; 8]) -> bool
     ensures { Decides result (a ≡ b) }
 {
-    let mut i: usize = 0;
-    while i < 8 {
-        let x = a[i];
-        let y = b[i];
-        if !same_row(x, y) {
-            return false;
-        }
-        i += 1;
-    }
-    true
+    a == b
 }
 
 // From 0 to 3 at second 10, with the first n of eight records lent.
-fn plan_into(n: usize) -> PlanShown
+fn plan_into(n: usize) -> After<Trip>
     requires { n ≤ 8 }
     ensures { PlanOn n result.rows result.answer }
 {
-    let m = barn();
-    let b = booked();
-    let rows = marked();
-    lend_plan(m, b, 0, 3, 10, rows, n)
+    lend_plan(barn(), booked(), 0, 3, 10, marked(), n)
 }
 
 // A page of 2 from the first cursor, with the first n of eight records lent.
-fn page_into(n: usize) -> PageShown
+fn page_into(n: usize) -> After<Shown>
     requires { n ≤ 8 }
     ensures { PageOn n result.rows result.answer }
 {
-    let m = barn();
-    let b = booked();
-    let rows = marked();
-    let c = Cursor::first();
-    lend_page(m, b, 2, c, rows, n)
+    lend_page(barn(), booked(), 2, Cursor::first(), marked(), n)
 }
 
 // One line: how many records were lent, the number returned and the rows.
@@ -213,21 +161,19 @@ fn check_plan(rt: &impl Print, n: usize) -> io::Result<()>
     requires { n ≤ 8 }
 {
     let s = plan_into(n);
-    let rows = s.rows;
-    let a = s.answer;
-    let code = a.number();
-    let count = a.rows();
+    let code = rules::number_of(s.answer);
+    let count = rules::rows_of(s.answer);
     say(rt, n, code, count)?;
     if n < 3 {
-        let kept = same_rows(rows, marked());
+        let kept = same_rows(s.rows, marked());
         prove!(kept);
         prove!(code == 6);
         return Ok(());
     }
-    let written = same_rows(rows, planned_rows());
+    let written = same_rows(s.rows, planned_rows());
     prove!(written);
     prove!(code == 0);
-    let arrival = a.arrival();
+    let arrival = s.answer.map_or(0, |t| t.arrival);
     prove!(arrival == 60);
     prove!(count == 3);
     Ok(())
@@ -238,22 +184,20 @@ fn check_page(rt: &impl Print, n: usize) -> io::Result<()>
     requires { n ≤ 8 }
 {
     let s = page_into(n);
-    let rows = s.rows;
-    let a = s.answer;
-    let code = a.number();
-    let count = a.rows();
+    let code = rules::number_of(s.answer);
+    let count = rules::rows_of(s.answer);
     say(rt, n, code, count)?;
     if n < 2 {
-        let kept = same_rows(rows, marked());
+        let kept = same_rows(s.rows, marked());
         prove!(kept);
         prove!(code == 6);
         return Ok(());
     }
-    let written = same_rows(rows, paged_rows());
+    let written = same_rows(s.rows, paged_rows());
     prove!(written);
     prove!(code == 0);
     prove!(count == 2);
-    let more = a.more();
+    let more = s.answer.is_ok_and(|t| t.more);
     prove!(more);
     Ok(())
 }
@@ -296,18 +240,14 @@ fn refused_plan(
     second: u32,
 ) -> io::Result<()> {
     let s = lend_plan(m, b, start, destination, second, marked(), 8);
-    let rows = s.rows;
-    let a = s.answer;
-    let kept = same_rows(rows, marked());
-    tell(rt, b"plan", a.number(), kept)
+    let kept = same_rows(s.rows, marked());
+    tell(rt, b"plan", rules::number_of(s.answer), kept)
 }
 
 fn refused_page(rt: &impl Print, m: Map, b: Book, size: u32, c: Cursor) -> io::Result<()> {
     let s = lend_page(m, b, size, c, marked(), 8);
-    let rows = s.rows;
-    let a = s.answer;
-    let kept = same_rows(rows, marked());
-    tell(rt, b"page", a.number(), kept)
+    let kept = same_rows(s.rows, marked());
+    tell(rt, b"page", rules::number_of(s.answer), kept)
 }
 
 // Each refusal but 6, which lists that are too short have shown.

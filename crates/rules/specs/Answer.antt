@@ -1,21 +1,15 @@
 -- The calls' answers: the numbers of the table, their order, and what is left in the caller's list.
-use Rattle.std.specs.Prelude.{ℕ, zero, suc, ◌+◌, ◌≤◌, ◌<◌, ◌≡◌, Bool, false, length, drop}
+use Rattle.std.specs.Prelude.{ℕ, zero, suc, ◌+◌, ◌≤◌, ◌<◌, ◌≡◌, Bool, false, length, drop, Result, Ok, Err}
 use mathlib.Core.List.{List, ◌++◌, Memᴰ}
 use Rattle.rules.specs.declared.Row.{Row}
 use Rattle.rules.specs.declared.Map.{Map}
 use Rattle.rules.specs.declared.Book.{Book}
 use Rattle.rules.specs.declared.Refusal.{Refusal}
 use Rattle.rules.specs.declared.Refusal.TheVariants.{BadMap, BadBook, OffMap, OffDay, NoPlan, ShortList, FullBook, NoTickets, UnknownTicket, BadSize, BadCursor, BadFrame, KeysFall, BrokenRun, Overfull, Barred}
-use Rattle.rules.specs.declared.Planned.{Planned}
-use Rattle.rules.specs.declared.Planned.TheVariants.{Done, Refused}
-use Rattle.rules.specs.declared.Booked.{Booked}
-use Rattle.rules.specs.declared.Booked.TheVariants.{Done as Issues, Refused as NotBooked}
-use Rattle.rules.specs.declared.Cancelled.{Cancelled}
-use Rattle.rules.specs.declared.Cancelled.TheVariants.{Done as Removes, Refused as NotCancelled}
-use Rattle.rules.specs.declared.Paged.{Paged}
-use Rattle.rules.specs.declared.Paged.TheVariants.{Done as Shows, Refused as NotShown}
-use Rattle.rules.specs.declared.Booking.{Booking}
-use Rattle.rules.specs.declared.Cancelling.{Cancelling}
+use Rattle.rules.specs.declared.Trip.{Trip}
+use Rattle.rules.specs.declared.Issued.{Issued}
+use Rattle.rules.specs.declared.Shown.{Shown}
+use Rattle.rules.specs.declared.Change.{Change}
 use Rattle.rules.specs.Limits.{day, row_limit, ticket_limit, page_limit}
 use Rattle.rules.specs.Rows.{Key, cursor_key, first_key, keep, insert_all}
 use Rattle.rules.specs.Page.{page_rows, page_more, last_key}
@@ -69,26 +63,38 @@ abbrev pub rows_done : ℕ → ℕ → ℕ
 rows_done zero c = c
 rows_done (suc n) c = 0
 
+-- ---- every answer: what was done, or why it is refused
+
+abbrev pub answer_number : {A : Type 0} → Result A Refusal → ℕ
+answer_number (Ok x) = 0
+answer_number (Err r) = number r
+
+-- the count of what was done, or the row that a refusal names
+abbrev pub answer_count : {A : Type 0} → (A → ℕ) → Result A Refusal → ℕ
+answer_count count (Ok x) = count x
+answer_count count (Err r) = fault_row r
+
+abbrev pub answer_rows : {A : Type 0} → (A → ℕ) → Result A Refusal → ℕ
+answer_rows count r = rows_done (answer_number r) (answer_count count r)
+
 -- ---- plan
 
-abbrev pub planned_number : Planned → ℕ
-planned_number (Done t) = 0
-planned_number (Refused r) = number r
+abbrev pub Planned : Type 0
+Planned = Result Trip Refusal
 
 abbrev pub planned_arrival : Planned → ℕ
-planned_arrival (Done t) = t.arrival
-planned_arrival (Refused r) = 0
+planned_arrival (Ok t) = t.arrival
+planned_arrival (Err r) = 0
 
 abbrev pub planned_count : Planned → ℕ
-planned_count (Done t) = t.count
-planned_count (Refused r) = fault_row r
+planned_count r = answer_count (λ t. t.count) r
 
 abbrev pub planned_rows : Planned → ℕ
-planned_rows r = rows_done (planned_number r) (planned_count r)
+planned_rows r = answer_rows (λ t. t.count) r
 
 -- the numbers returned, and what the caller's list then holds
 pub record Planning {A : Type 0} (n a c : ℕ) (list out : List A) (r : Planned) : Type 0 where
-  pub code : planned_number r ≡ n
+  pub code : answer_number r ≡ n
   pub arrives : planned_arrival r ≡ a
   pub counts : planned_count r ≡ c
   pub holds : out ≡ list
@@ -125,28 +131,29 @@ PlanIs m b start dest s was out r = PlanSays (papers_of m b) start dest s was ou
 
 -- ---- book
 
-abbrev pub booked_number : Booked → ℕ
-booked_number (Issues i) = 0
-booked_number (NotBooked r) = number r
+abbrev pub Booked : Type 0
+Booked = Result Issued Refusal
+
+abbrev pub Booking : Type 0
+Booking = Change Issued
 
 abbrev pub booked_ticket : Booked → ℕ
-booked_ticket (Issues i) = i.ticket
-booked_ticket (NotBooked r) = 0
+booked_ticket (Ok i) = i.ticket
+booked_ticket (Err r) = 0
 
 abbrev pub booked_arrival : Booked → ℕ
-booked_arrival (Issues i) = i.arrival
-booked_arrival (NotBooked r) = 0
+booked_arrival (Ok i) = i.arrival
+booked_arrival (Err r) = 0
 
 abbrev pub booked_count : Booked → ℕ
-booked_count (Issues i) = i.count
-booked_count (NotBooked r) = fault_row r
+booked_count r = answer_count (λ i. i.count) r
 
 abbrev pub booked_rows : Booked → ℕ
-booked_rows r = rows_done (booked_number r) (booked_count r)
+booked_rows r = answer_rows (λ i. i.count) r
 
 -- the numbers returned, and the book after
 pub record BookingIs (n k a c : ℕ) (book : Book) (r : Booking) : Type 0 where
-  pub code : booked_number r.answer ≡ n
+  pub code : answer_number r.answer ≡ n
   pub issues : booked_ticket r.answer ≡ k
   pub arrives : booked_arrival r.answer ≡ a
   pub counts : booked_count r.answer ≡ c
@@ -178,16 +185,17 @@ BookIs m b start dest s r = Checked (papers_of m b) (λ n i. BookingIs n 0 0 i b
 
 -- ---- cancel
 
-abbrev pub cancelled_number : Cancelled → ℕ
-cancelled_number (Removes c) = 0
-cancelled_number (NotCancelled r) = number r
+abbrev pub Cancelled : Type 0
+Cancelled = Result ℕ Refusal
+
+abbrev pub Cancelling : Type 0
+Cancelling = Change ℕ
 
 abbrev pub cancelled_count : Cancelled → ℕ
-cancelled_count (Removes c) = c
-cancelled_count (NotCancelled r) = fault_row r
+cancelled_count r = answer_count (λ c. c) r
 
 pub record CancellingIs (n c : ℕ) (book : Book) (r : Cancelling) : Type 0 where
-  pub code : cancelled_number r.answer ≡ n
+  pub code : answer_number r.answer ≡ n
   pub counts : cancelled_count r.answer ≡ c
   pub holds : r.book ≡ book
 
@@ -213,28 +221,26 @@ CancelIs m b ticket r = Checked (papers_of m b) (λ n i. CancellingIs n i b r) (
 
 -- ---- page
 
-abbrev pub paged_number : Paged → ℕ
-paged_number (Shows s) = 0
-paged_number (NotShown r) = number r
+abbrev pub Paged : Type 0
+Paged = Result Shown Refusal
 
 abbrev pub paged_count : Paged → ℕ
-paged_count (Shows s) = s.count
-paged_count (NotShown r) = fault_row r
+paged_count r = answer_count (λ s. s.count) r
 
 abbrev pub paged_rows : Paged → ℕ
-paged_rows r = rows_done (paged_number r) (paged_count r)
+paged_rows r = answer_rows (λ s. s.count) r
 
 abbrev pub paged_more : Paged → Bool
-paged_more (Shows s) = s.more
-paged_more (NotShown r) = false
+paged_more (Ok s) = s.more
+paged_more (Err r) = false
 
 abbrev pub paged_cursor : Paged → Key
-paged_cursor (Shows s) = cursor_key s.cursor
-paged_cursor (NotShown r) = first_key
+paged_cursor (Ok s) = cursor_key s.cursor
+paged_cursor (Err r) = first_key
 
 -- the numbers returned, and what the caller's list then holds
 pub record PagingIs {A : Type 0} (n c : ℕ) (more : Bool) (k : Key) (list out : List A) (r : Paged) : Type 0 where
-  pub code : paged_number r ≡ n
+  pub code : answer_number r ≡ n
   pub counts : paged_count r ≡ c
   pub says : paged_more r ≡ more
   pub hands : paged_cursor r ≡ k

@@ -5,17 +5,13 @@ use Rattle.rules.specs.declared.Link.{Link}
 use Rattle.rules.specs.declared.Map.{Map}
 use Rattle.rules.specs.declared.Book.{Book}
 use Rattle.rules.specs.declared.State.{State}
-use Rattle.rules.specs.declared.Planned.{Planned}
-use Rattle.rules.specs.declared.Paged.{Paged}
-use Rattle.rules.specs.declared.Booking.{Booking}
-use Rattle.rules.specs.declared.Cancelling.{Cancelling}
 use Rattle.rules.specs.Limits.{place_limit, link_limit}
 use Rattle.rules.specs.Map.{zero_place, no_link}
 use Rattle.rules.specs.Rows.{bit}
 use Rattle.rules.specs.Book.{book_of}
 use Rattle.rules.specs.Bytes.{byte_at, num3, bytes2, bytes3, place_size, place_in, link_size, link_in, row_size, list_size, key_in}
 use Rattle.rules.specs.Gate.{Unless}
-use Rattle.rules.specs.Answer.{PlanIs, BookIs, CancelIs, PageIs, planned_number, planned_arrival, planned_count, planned_rows, booked_number, booked_ticket, booked_arrival, booked_count, cancelled_number, cancelled_count, paged_number, paged_count, paged_rows, paged_more}
+use Rattle.rules.specs.Answer.{Planned, Paged, Booking, Cancelling, PlanIs, BookIs, CancelIs, PageIs, answer_number, planned_arrival, planned_count, planned_rows, booked_ticket, booked_arrival, booked_count, cancelled_count, paged_count, paged_rows, paged_more}
 
 -- "uppercase hexadecimal, two digits a byte"
 abbrev pub digit_by : Bool → ℕ → ℕ
@@ -93,16 +89,16 @@ answer_list = replicate list_size 0
 
 -- "plan adds arrival(3) count(2), book ticket(3) arrival(3) count(2), cancel count(2), page count(1) more(1)"
 abbrev pub plan_lines : Planned → List ℕ → List ℕ
-plan_lines r list = line_of (after00 (planned_number r) (bytes3 (planned_arrival r) ++ bytes2 (planned_count r))) ++ row_lines (planned_rows r) list
+plan_lines r list = line_of (after00 (answer_number r) (bytes3 (planned_arrival r) ++ bytes2 (planned_count r))) ++ row_lines (planned_rows r) list
 
 abbrev pub book_lines : Booking → List ℕ
-book_lines r = line_of (after00 (booked_number r.answer) (bytes3 (booked_ticket r.answer) ++ (bytes3 (booked_arrival r.answer) ++ bytes2 (booked_count r.answer))))
+book_lines r = line_of (after00 (answer_number r.answer) (bytes3 (booked_ticket r.answer) ++ (bytes3 (booked_arrival r.answer) ++ bytes2 (booked_count r.answer))))
 
 abbrev pub cancel_lines : Cancelling → List ℕ
-cancel_lines r = line_of (after00 (cancelled_number r.answer) (bytes2 (cancelled_count r.answer)))
+cancel_lines r = line_of (after00 (answer_number r.answer) (bytes2 (cancelled_count r.answer)))
 
 abbrev pub page_lines : Paged → List ℕ → List ℕ
-page_lines r list = line_of (after00 (paged_number r) (paged_count r ∷ (bit (paged_more r) ∷ []))) ++ row_lines (paged_rows r) list
+page_lines r list = line_of (after00 (answer_number r) (paged_count r ∷ (bit (paged_more r) ∷ []))) ++ row_lines (paged_rows r) list
 
 -- the state after, and what is printed
 pub record Said (s : State) (out : List ℕ) (s' : State) (said : List ℕ) : Type 0 where

@@ -3,14 +3,12 @@ use Rattle.std.specs.Prelude.{ℕ, ◌+◌, ◌*◌, ◌≤◌, ◌≡◌, List,
 use Rattle.rules.specs.declared.Place.{Place}
 use Rattle.rules.specs.declared.Link.{Link}
 use Rattle.rules.specs.declared.Row.{Row}
-use Rattle.rules.specs.declared.Planned.{Planned}
-use Rattle.rules.specs.declared.Paged.{Paged}
 use Rattle.rules.specs.Map.{Yard, yard_of, MapRules}
 use Rattle.rules.specs.Rows.{Key, bit}
 use Rattle.rules.specs.Book.{Formed, Counted}
 use Rattle.rules.specs.Bytes.{num2, num3, place_size, places_from, link_size, links_from, row_size, rows_from}
 use Rattle.rules.specs.Gate.{Papers}
-use Rattle.rules.specs.Answer.{PlanSays, PageSays, planned_number, planned_arrival, planned_count, paged_number, paged_count, paged_more}
+use Rattle.rules.specs.Answer.{Planned, Paged, PlanSays, PageSays, answer_number, planned_arrival, planned_count, paged_count, paged_more}
 
 -- "A map slice is place count(2), link count(2), then places and links as in frames 01 and 02 without their first byte"
 abbrev pub slice_places : List ℕ → List Place
@@ -55,9 +53,9 @@ one_number n a c = n * 4294967296 + (a * 2048 + c)
 pub record PortalPlan (map book : List ℕ) (start dest s : ℕ) (was out : List ℕ) (r : ℕ) : Type 0 where
   pub answer : Planned
   pub says : PlanSays (slice_papers map book) start dest s was out answer
-  pub result : r ≡ one_number (planned_number answer) (planned_arrival answer) (planned_count answer)
+  pub result : r ≡ one_number (answer_number answer) (planned_arrival answer) (planned_count answer)
 
 pub record PortalPage (map book : List ℕ) (size : ℕ) (k : Key) (was out : List ℕ) (r : ℕ) : Type 0 where
   pub answer : Paged
   pub says : PageSays (slice_papers map book) size k was out answer
-  pub result : r ≡ one_number (paged_number answer) (bit (paged_more answer)) (paged_count answer)
+  pub result : r ≡ one_number (answer_number answer) (bit (paged_more answer)) (paged_count answer)

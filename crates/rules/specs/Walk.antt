@@ -5,14 +5,10 @@ use mathlib.Core.List.{List, [], ◌∷◌, ◌++◌, Memᴰ}
 use Rattle.rules.specs.declared.Row.{Row}
 use Rattle.rules.specs.declared.Map.{Map}
 use Rattle.rules.specs.declared.Book.{Book}
-use Rattle.rules.specs.declared.Planned.{Planned}
-use Rattle.rules.specs.declared.Booking.{Booking}
-use Rattle.rules.specs.declared.Cancelling.{Cancelling}
-use Rattle.rules.specs.declared.Paged.{Paged}
 use Rattle.rules.specs.Rows.{Key, row_key, first_key, row_at, Rising}
 use Rattle.rules.specs.Book.{rows_of}
 use Rattle.rules.specs.Bytes.{rows_from}
-use Rattle.rules.specs.Answer.{PlanIs, BookIs, CancelIs, PageIs, booked_rows, paged_number, paged_count, paged_more, paged_cursor}
+use Rattle.rules.specs.Answer.{Planned, Booking, Cancelling, Paged, PlanIs, BookIs, CancelIs, PageIs, booked_rows, answer_number, paged_count, paged_more, paged_cursor}
 
 -- ---- the events, all over one map
 
@@ -24,7 +20,7 @@ module _ (m : Map) where
     pub out : List ℕ
     pub answer : Paged
     pub call : PageIs m b size k list out answer
-    pub done : paged_number answer ≡ 0
+    pub done : answer_number answer ≡ 0
 
   -- what is done between two pages, from book b to book c: any calls, in any order and number, refused or not
   pub data Others : Book → Book → Type 0 where

@@ -2,19 +2,19 @@
 // What they mean stands in specs/.
 #![tactic(auto)]
 
-ghost use Rattle.std.specs.Prelude.{◌≡◌};
+ghost use Rattle.std.specs.Prelude.{◌≡◌, ℕ};
 ghost use Rattle.rules.specs.Limits.{day, place_limit, capacity_limit, duration_limit, link_limit, row_limit, ticket_limit, plan_limit, page_limit};
 ghost use Rattle.rules.specs.Bytes.{place_size, link_size, row_size, row_line_size, list_size, answer_room};
 ghost use Rattle.rules.specs.Rows.{row, no_row, cursor_key, row_key, first_key, lessb};
-ghost use Rattle.rules.specs.Answer.{number, fault_row, planned_number, planned_arrival, planned_rows, paged_number, paged_rows, paged_more};
+ghost use Rattle.rules.specs.Answer.{number, fault_row, answer_number, answer_rows};
 
-#[derive(Clone, Copy)]
+#[derive(Clone, Copy, Default)]
 pub struct Place {
     pub capacity: u8,
     pub duration: u16,
 }
 
-#[derive(Clone, Copy)]
+#[derive(Clone, Copy, Default)]
 pub struct Link {
     pub from: u8,
     pub to: u8,
@@ -50,7 +50,7 @@ impl Map {
     pub const DAY: u32 = 86400;
 }
 
-#[derive(Clone, Copy)]
+#[derive(Clone, Copy, PartialEq, Eq)]
 pub struct Row {
     pub place: u8,
     pub entry: u32,
@@ -77,11 +77,11 @@ impl Row {
         ensures { result ≡ row place entry ticket exit next }
     {
         Row {
-            place: place,
-            entry: entry,
-            ticket: ticket,
-            exit: exit,
-            next: next,
+            place,
+            entry,
+            ticket,
+            exit,
+            next,
         }
     }
 
@@ -93,7 +93,7 @@ impl Row {
     }
 }
 
-#[derive(Clone, Copy)]
+#[derive(Clone, Copy, PartialEq, Eq)]
 pub struct Book {
     pub rows: [Row; Book::ROWS],
     pub count: usize,
@@ -109,7 +109,7 @@ impl Book {
     pub const UNREAD: usize = Book::ROWS + 1;
 }
 
-#[derive(Clone, Copy)]
+#[derive(Clone, Copy, Default, PartialEq, Eq, PartialOrd, Ord)]
 pub struct Cursor {
     pub place: u32,
     pub entry: u32,
@@ -123,40 +123,30 @@ impl Cursor {
     pub fn first() -> Self
         ensures { cursor_key result ≡ first_key }
     {
-        Cursor {
-            place: 0,
-            entry: 0,
-            ticket: 0,
-        }
+        Cursor::default()
     }
 
     // The row's key is above the cursor.
     pub fn before(self, r: Row) -> bool
         ensures { result ≡ lessb (cursor_key self) (row_key r) }
     {
-        let place = r.place as u32;
-        if self.place < place {
-            return true;
-        }
-        if place < self.place {
-            return false;
-        }
-        if self.entry < r.entry {
-            return true;
-        }
-        if r.entry < self.entry {
-            return false;
-        }
-        self.ticket < r.ticket
+        self < Cursor::from(r)
     }
 
     // The cursor after this row.
     pub fn moved(self, r: Row) -> Self
         ensures { cursor_key result ≡ row_key r }
     {
-        let place = r.place as u32;
+        Cursor::from(r)
+    }
+}
+
+impl From<Row> for Cursor {
+    fn from(r: Row) -> Self
+        ensures { cursor_key result ≡ row_key r }
+    {
         Cursor {
-            place: place,
+            place: u32::from(r.place),
             entry: r.entry,
             ticket: r.ticket,
         }
@@ -213,23 +203,40 @@ impl Refusal {
         ensures { result ≡ fault_row self }
     {
         match self {
-            Refusal::BadMap => 0,
-            Refusal::BadBook => 0,
-            Refusal::OffMap => 0,
-            Refusal::OffDay => 0,
-            Refusal::NoPlan => 0,
-            Refusal::ShortList => 0,
-            Refusal::FullBook => 0,
-            Refusal::NoTickets => 0,
-            Refusal::UnknownTicket => 0,
-            Refusal::BadSize => 0,
-            Refusal::BadCursor => 0,
-            Refusal::BadFrame => 0,
-            Refusal::KeysFall(i) => i,
-            Refusal::BrokenRun(i) => i,
-            Refusal::Overfull(i) => i,
-            Refusal::Barred(i) => i,
+            Refusal::KeysFall(i)
+            | Refusal::BrokenRun(i)
+            | Refusal::Overfull(i)
+            | Refusal::Barred(i) => i,
+            _ => 0,
         }
+    }
+}
+
+// What a call answers: it did this, or refuses. Its number in the table, 0 where it is done.
+pub fn number_of<T: Copy>(answer: Result<T, Refusal>) -> u8
+    ensures { result ≡ answer_number answer }
+{
+    match answer {
+        Ok(_) => 0,
+        Err(r) => r.number(),
+    }
+}
+
+// What a call did, counted in rows.
+pub trait InRows: Copy {
+    ghost rows: { Self → ℕ };
+
+    fn rows(self) -> usize
+        ensures { result ≡ rows self };
+}
+
+// How many rows an answer counts, 0 at a refusal.
+pub fn rows_of<T: InRows>(answer: Result<T, Refusal>) -> usize
+    ensures { result ≡ answer_rows T.rows answer }
+{
+    match answer {
+        Ok(t) => t.rows(),
+        Err(_) => 0,
     }
 }
 
@@ -244,41 +251,11 @@ impl Trip {
     pub const STAYS: usize = Map::PLACES + Book::ROWS;
 }
 
-#[derive(Clone, Copy)]
-pub enum Planned {
-    Done(Trip),
-    Refused(Refusal),
-}
+impl InRows for Trip {
+    ghost rows = { λ t. t.count };
 
-impl Planned {
-    // 0, or the refusal's number.
-    pub fn number(self) -> u8
-        ensures { result ≡ planned_number self }
-    {
-        match self {
-            Planned::Done(_) => 0,
-            Planned::Refused(r) => r.number(),
-        }
-    }
-
-    // 0 at a refusal.
-    pub fn arrival(self) -> u32
-        ensures { result ≡ planned_arrival self }
-    {
-        match self {
-            Planned::Done(t) => t.arrival,
-            Planned::Refused(_) => 0,
-        }
-    }
-
-    // How many rows were written, 0 at a refusal.
-    pub fn rows(self) -> usize
-        ensures { result ≡ planned_rows self }
-    {
-        match self {
-            Planned::Done(t) => t.count,
-            Planned::Refused(_) => 0,
-        }
+    fn rows(self) -> usize {
+        self.count
     }
 }
 
@@ -289,28 +266,28 @@ pub struct Issued {
     pub count: usize,
 }
 
-#[derive(Clone, Copy)]
-pub enum Booked {
-    Done(Issued),
-    Refused(Refusal),
+impl InRows for Issued {
+    ghost rows = { λ i. i.count };
+
+    fn rows(self) -> usize {
+        self.count
+    }
 }
 
+// A cancellation answers with the number of rows itself.
+impl InRows for usize {
+    ghost rows = { λ n. n };
+
+    fn rows(self) -> usize {
+        self
+    }
+}
+
+// The book after a call that changes it, and what the call answers.
 #[derive(Clone, Copy)]
-pub struct Booking {
+pub struct Change<T> {
     pub book: Book,
-    pub answer: Booked,
-}
-
-#[derive(Clone, Copy)]
-pub enum Cancelled {
-    Done(usize),
-    Refused(Refusal),
-}
-
-#[derive(Clone, Copy)]
-pub struct Cancelling {
-    pub book: Book,
-    pub answer: Cancelled,
+    pub answer: Result<T, Refusal>,
 }
 
 #[derive(Clone, Copy)]
@@ -320,41 +297,11 @@ pub struct Shown {
     pub cursor: Cursor,
 }
 
-#[derive(Clone, Copy)]
-pub enum Paged {
-    Done(Shown),
-    Refused(Refusal),
-}
+impl InRows for Shown {
+    ghost rows = { λ s. s.count };
 
-impl Paged {
-    // 0, or the refusal's number.
-    pub fn number(self) -> u8
-        ensures { result ≡ paged_number self }
-    {
-        match self {
-            Paged::Done(_) => 0,
-            Paged::Refused(r) => r.number(),
-        }
-    }
-
-    // How many rows were written, 0 at a refusal.
-    pub fn rows(self) -> usize
-        ensures { result ≡ paged_rows self }
-    {
-        match self {
-            Paged::Done(s) => s.count,
-            Paged::Refused(_) => 0,
-        }
-    }
-
-    // Whether the book has more rows after them, false at a refusal.
-    pub fn more(self) -> bool
-        ensures { result ≡ paged_more self }
-    {
-        match self {
-            Paged::Done(s) => s.more,
-            Paged::Refused(_) => false,
-        }
+    fn rows(self) -> usize {
+        self.count
     }
 }
 

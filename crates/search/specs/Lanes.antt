@@ -14,6 +14,7 @@ use Rattle.flat.specs.Laws.{places_long, place_in, links_long, link_in, yard_of}
 use Rattle.flat.specs.Links.{group_end}
 use Rattle.lookup.specs.Crossings.{Kept}
 use Rattle.lookup.specs.Booked.{Booked, booked_kept}
+use Rattle.settle.specs.Search.{Steps}
 use Rattle.search.specs.Offers.{Row1}
 use Rattle.search.specs.Relax.{Ground, Runs, next_by}
 
@@ -78,6 +79,9 @@ module _ {C D F T H N : List ℕ} {n k : ℕ} {rows : List Row} {c : ℕ} {P S E
         rise = λ i j a b x. apart i j b (inside q j h x) (L.by_place.of q i h a (omega arith) ∙ sym (L.by_place.of q j h (omega arith) x));
       }
 
+  pub lanes_places : n ≤ 256
+  lanes_places = lanes_ground.places
+
   pub lanes_runs : Runs Y n k D F T
   lanes_runs = record { durs = yard.durs; links = λ p q. refl }
 
@@ -86,6 +90,10 @@ module _ {C D F T H N : List ℕ} {n k : ℕ} {rows : List Row} {c : ℕ} {P S E
 
   pub lanes_later : (w v e : ℕ) → w < m → e < 86401 → e < next_by Y rows P S E w v e
   lanes_later = later Y rows m (span_at P S E) L.windows yard.long
+
+  -- a search may begin in any window, at any second of the day
+  pub lanes_steps : {src s : ℕ} → src < m → s < 86401 → Steps m (next_by Y rows P S E) src s
+  lanes_steps h k = record { few = L.few; src_in = h; s_in = k; mono = lanes_mono; later = lanes_later }
 
 -- crossings may be looked up in the arrays that hold the rows
 pub lanes_kept : {C D F T H L : List ℕ} {n k : ℕ} {K X : List ℕ} {c : ℕ} {P S E I : List ℕ} {m : ℕ} → Lanes C D F T H L n k (rows_in K X c) c P S E I m → Kept K X c

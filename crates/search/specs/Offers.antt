@@ -1,12 +1,15 @@
 -- The windows of one place, and of all places that a place's links lead to, offered the way through a window.
-use Rattle.std.specs.Prelude.{ℕ, ◌+◌, ◌-◌, ◌≤◌, ◌<◌, min, max, ◌≡◌, refl, ◌⊎◌, List, length, set}
-use Rattle.std.proofs.Common.{ap, subst, ◌∙◌, inl, inr, ⊎_elim, arith, length-set, get_or-set_same, get_or-set_other}
-use Rattle.laws.specs.Order.{lt_or_ge, eq_or_ne}
+use Rattle.std.specs.Prelude.{ℕ, ◌+◌, ◌-◌, ◌≤◌, ◌<◌, min, max, ◌≡◌, ◌⊎◌, Option, Some, None, List, length, get_or, take, drop, true, false, ltb}
+use Rattle.std.specs.Option.{unwrap_or}
+use Rattle.std.specs.List.Sorted.{IsNonDecreasingBy, IsPartitionPoint}
+use Rattle.std.proofs.Common.{ap, subst, ◌∙◌, inl, inr, ⊎_elim, arith, get_or-take, length-take-le, length-drop, ltb-true, ltb-false}
+use Rattle.std.proofs.lemmas.List.{get_or-drop, get_or_default}
+use Rattle.laws.specs.Order.{lt_or_ge}
 use Rattle.laws.specs.Lists.{at}
 use Rattle.rules.specs.declared.Row.{Row}
 use Rattle.settle.specs.Blocks.{Blocks, Offered}
-use Rattle.settle.specs.Search.{Through, In, through_none, run_more, run_rest}
-use Rattle.search.specs.Entries.{FirstClear, IsEntry, entry_first, entry_past, entry_late, first_clear_same}
+use Rattle.settle.specs.Search.{Through, In, run_more, run_rest}
+use Rattle.search.specs.Entries.{FirstClear, IsEntry, entry_first, entry_late}
 
 -- windows a .. b - 1 of one place, of duration d: long enough, in the day, and each after the one before
 pub record Row1 (S E : List ℕ) (a b d : ℕ) : Type 0 where
@@ -25,54 +28,20 @@ pub record Labels (lab op bef : List ℕ) : Type 0 where
   pub len_lab : length lab ≡ 1280
   pub len_bef : length bef ≡ 1280
 
-pub offered_labels : {lab op bef lab' op' bef' : List ℕ} {v w t : ℕ} → v < 1280 → length op ≡ 1280 → Labels lab op bef → Offered lab op bef v w t lab' op' bef' → Labels lab' op' bef'
-offered_labels {lab} {op} {bef} {lab'} {op'} {bef'} {v} {w} {t} h n L O =
-    ⊎_elim (λ (c : t < at lab v). let k = O.took c in rw (k.0, k.1, k.2) (taken c)) (λ (c : at lab v ≤ t). let k = O.left c in rw (k.0, k.1, k.2) L) (lt_or_ge t (at lab v))
-  where
-    taken : t < at lab v → Labels (set lab v t) (set op v t) (set bef v (w + 1))
-    taken c = record {
-      low = λ x. ⊎_elim (λ (e : x ≡ v). rw e (omega (arith, get_or-set_same lab v t 0 (omega (arith, L.len_lab)), L.low v))) (λ (e : x ≡ v → ⊥). omega (arith, get_or-set_other lab v x t 0 e, L.low x)) (eq_or_ne x v);
-      above = λ x.
-          ⊎_elim (λ (e : x ≡ v). rw e (omega (arith, get_or-set_same lab v t 0 (omega (arith, L.len_lab)), get_or-set_same op v t 0 (omega arith))))
-          (λ (e : x ≡ v → ⊥). omega (arith, get_or-set_other lab v x t 0 e, get_or-set_other op v x t 0 e, L.above x)) (eq_or_ne x v);
-      len_lab = length-set lab v t ∙ L.len_lab;
-      len_bef = length-set bef v (w + 1) ∙ L.len_bef;
-    }
-
--- window v was tried, entered from lo to hi: whatever the entry t is, it was offered
+-- window v was tried, entered from lo to hi: whatever the entry is, it was offered, the mark where there is none
 pub record Tried (rows : List Row) (q p lo hi v w : ℕ) (lab op bef lab' op' bef' : List ℕ) : Type 0 where
-  pub offered : (t : ℕ) → FirstClear rows q p lo hi t → Offered lab op bef v w t lab' op' bef'
-
-pub tried_left : {rows : List Row} {q p lo hi v w : ℕ} {lab op bef : List ℕ} → at lab v ≤ 86401 → at lab v ≤ lo → Tried rows q p lo hi v w lab op bef lab op bef
-tried_left {lo = lo} {v = v} {lab = lab} m h = record {
-  offered = λ t F. record {
-    took = λ c. absurd (⊎_elim (λ (k : t < 86401). omega (arith, F.from k)) (λ (k : 86401 ≤ t). omega arith) (lt_or_ge t 86401));
-    left = λ _. (refl, refl, refl);
-  };
-}
-
-pub tried_at : {rows : List Row} {q p lo hi v w t : ℕ} {lab op bef lab' op' bef' : List ℕ} → hi ≤ 86400 → FirstClear rows q p lo hi t → Offered lab op bef v w t lab' op' bef' → Tried rows q p lo hi v w lab op bef lab' op' bef'
-tried_at {v = v} {w = w} {lab = lab} {op = op} {bef = bef} {lab' = lab'} {op' = op'} {bef' = bef'} h F O =
-    record { offered = λ t G. subst (λ x. Offered lab op bef v w x lab' op' bef') (first_clear_same h F G) O }
+  pub offered : (t : Option ℕ) → FirstClear rows q p lo hi t → Offered lab op bef v w (unwrap_or t 86401) lab' op' bef'
 
 -- of the windows of a place those below v are offered, whatever f gives their entries
 pub record OfferedTo (rows : List Row) (q p soonest leave d : ℕ) (S E : List ℕ) (a b w : ℕ) (lab op bef : List ℕ) (v : ℕ) (lab' op' bef' : List ℕ) : Type 0 where
   pub through : (f : ℕ → ℕ) → Entries rows q p soonest leave d S E a b f → Through (In a v) f w lab op bef lab' op' bef'
 
 module _ {rows : List Row} {q p soonest leave d : ℕ} {S E : List ℕ} {a b : ℕ} {w : ℕ} {lab op bef : List ℕ} (R : Row1 S E a b d) where
-  -- those that end too soon need no look
-  pub offered_start : (v : ℕ) → a ≤ v → v ≤ b → ((x : ℕ) → at lab x ≤ 86401) → ((i : ℕ) → a ≤ i → i < v → at E i < soonest + d) → OfferedTo rows q p soonest leave d S E a b w lab op bef v lab op bef
-  offered_start v av vb low past = record {
-    through = λ f X.
-        run_rest (through_none {f = f} {u = w} {lab = lab} {op = op} {bef = bef} {M = In a a} (λ x h. omega (arith, h.from, h.to))) av
-        (λ x h k. let e = entry_past (R.long x h (omega arith)) (X.is x h (omega arith)) (past x h k) in omega (arith, low x));
-  }
-
   pub offered_next : {v : ℕ} {lab' op' bef' lab'' op'' bef'' : List ℕ} → a ≤ v → v < b → v < length lab' → v < length op' → v < length bef'
       → OfferedTo rows q p soonest leave d S E a b w lab op bef v lab' op' bef'
       → Tried rows q p (max soonest (at S v)) (min leave (at E v - d)) v w lab' op' bef' lab'' op'' bef''
       → OfferedTo rows q p soonest leave d S E a b w lab op bef (v + 1) lab'' op'' bef''
-  offered_next {v} av vb hl ho hb I T = record { through = λ f X. run_more (I.through f X) av hl ho hb refl (T.offered (f v) (entry_first (R.long v av vb) (X.is v av vb))) }
+  offered_next {v} av vb hl ho hb I T = record { through = λ f X. let e = entry_first (R.long v av vb) (X.is v av vb) (R.in_day v av vb) in run_more (I.through f X) av hl ho hb e.1 (T.offered e.0 e.2) }
 
   -- the rest start too late
   pub offered_rest : {v : ℕ} {lab' op' bef' : List ℕ} → a ≤ v → v < b → ((x : ℕ) → at lab x ≤ 86401) → leave < at S v
@@ -143,27 +112,30 @@ module _ {M M' : ℕ → Type 0} {f : ℕ → ℕ} {u : ℕ} {lab op bef lab' op
 
 -- ---- the first window of a place that ends late enough
 
-pub record OpenFrom (E : List ℕ) (a b x lo hi : ℕ) : Type 0 where
-  pub from : a ≤ lo
-  pub up : lo ≤ hi
-  pub to : hi ≤ b
-  pub past : (i : ℕ) → a ≤ i → i < lo → at E i < x
-  pub rest : (i : ℕ) → hi ≤ i → i < b → x ≤ at E i
+pub record OpenFrom (E : List ℕ) (a b x r : ℕ) : Type 0 where
+  pub from : a ≤ r
+  pub to : r ≤ b
+  pub past : (i : ℕ) → a ≤ i → i < r → at E i < x
+  pub rest : (i : ℕ) → r ≤ i → i < b → x ≤ at E i
 
-pub open_start : (E : List ℕ) (a b x : ℕ) → a ≤ b → OpenFrom E a b x a b
-open_start E a b x h = record { from = omega arith; up = h; to = omega arith; past = λ i k l. absurd (omega arith); rest = λ i k l. absurd (omega arith) }
+module _ (E : List ℕ) {a b : ℕ} (h : a ≤ b) (l : b ≤ length E) where
+  part_long : length (take (b - a) (drop a E)) ≡ b - a
+  part_long = length-take-le (b - a) (drop a E) (omega (arith, length-drop a E))
 
-module _ {E : List ℕ} {a b x lo hi mid : ℕ} (rise : (i j : ℕ) → a ≤ i → i ≤ j → j < b → at E i ≤ at E j) (O : OpenFrom E a b x lo hi) (l : lo ≤ mid) (h : mid < hi) where
-  pub open_more : at E mid < x → OpenFrom E a b x (mid + 1) hi
-  open_more c = record { from = omega (arith, O.from); up = omega arith; to = O.to; past = λ i k m. omega (arith, rise i mid k (omega arith) (omega (arith, O.to))); rest = O.rest }
+  part_at : (i d : ℕ) → i < b - a → get_or (take (b - a) (drop a E)) i d ≡ at E (a + i)
+  part_at i d k = get_or-take (b - a) (drop a E) i d k ∙ get_or-drop a E i d ∙ get_or_default E (a + i) d 0 (omega arith)
 
-  pub open_less : x ≤ at E mid → OpenFrom E a b x lo mid
-  open_less c = record { from = O.from; up = l; to = omega (arith, O.to); past = O.past; rest = λ i k m. omega (arith, rise mid i (omega (arith, O.from)) k m) }
+  -- ends rise in the part of them that is looked at
+  pub part_rises : ((i j : ℕ) → a ≤ i → i ≤ j → j < b → at E i ≤ at E j) → IsNonDecreasingBy (λ e. e) (take (b - a) (drop a E))
+  part_rises up i j d m k = omega (arith, part_long, part_at i d (omega (arith, part_long)), part_at j d (omega (arith, part_long)), up (a + i) (a + j) (omega arith) (omega arith) (omega (arith, part_long)))
 
--- ends rise along a place's windows
-pub ends_rise : {S E : List ℕ} {a b d : ℕ} → Row1 S E a b d → (i j : ℕ) → a ≤ i → i ≤ j → j < b → at E i ≤ at E j
-ends_rise {S} {E} R i j h k m =
-    ⊎_elim (λ (c : i < j). omega (arith, R.rise i j h c m, R.long j (omega arith) m)) (λ (c : j ≤ i). let e : i ≡ j = omega arith in omega (arith, ap (at E) e)) (lt_or_ge i j)
+  pub open_from : {x r : ℕ} → r ≤ length (take (b - a) (drop a E)) → IsPartitionPoint (λ e. ltb e x ≡ true) (λ e. ltb e x ≡ false) (take (b - a) (drop a E)) r → OpenFrom E a b x (a + r)
+  open_from {x} {r} k I = record {
+    from = omega arith;
+    to = omega (arith, part_long);
+    past = λ i m n. let j : ℕ = i - a in let e : a + j ≡ i = omega arith in omega (arith, ap (at E) e, part_at j 0 (omega (arith, part_long)), ltb-true _ x (I.0 j 0 (omega arith) (omega arith)));
+    rest = λ i m n. let j : ℕ = i - a in let e : a + j ≡ i = omega arith in omega (arith, ap (at E) e, part_at j 0 (omega arith), ltb-false _ x (I.1 j 0 (omega arith) (omega (arith, part_long))));
+  }
 
 -- the loop over the windows of a place, at window v
 pub record Relaxing (rows : List Row) (q p soonest leave d : ℕ) (S E : List ℕ) (a b w : ℕ) (lab₀ op₀ bef₀ lab op le bef : List ℕ) (v : ℕ) : Type 0 where
@@ -175,26 +147,14 @@ pub record Relaxing (rows : List Row) (q p soonest leave d : ℕ) (S E : List �
 
 -- ---- the window that a plan begins in
 
-pub record BeginsAt (S E : List ℕ) (a b s d r : ℕ) : Type 0 where
-  pub within : r ≤ 1280
-  pub from : r < 1280 → a ≤ r
-  pub to : r < 1280 → r < b
-  pub begun : r < 1280 → at S r ≤ s
-  pub fits : r < 1280 → s + d ≤ at E r
-  pub none : r ≡ 1280 → (v : ℕ) → a ≤ v → v < b → at S v ≤ s → s + d ≤ at E v → ⊥
+pub record Begins (S E : List ℕ) (a b s d r : ℕ) : Type 0 where
+  pub within : r < 1280
+  pub from : a ≤ r
+  pub to : r < b
+  pub begun : at S r ≤ s
+  pub fits : s + d ≤ at E r
 
-pub begins_none : {S E : List ℕ} {a b s d : ℕ} → ((v : ℕ) → a ≤ v → v < b → at S v ≤ s → s + d ≤ at E v → ⊥) → BeginsAt S E a b s d 1280
-begins_none f = record { within = omega arith; from = λ h. absurd (omega arith); to = λ h. absurd (omega arith); begun = λ h. absurd (omega arith); fits = λ h. absurd (omega arith); none = λ _. f }
-
-module _ {S E : List ℕ} {a b s d r : ℕ} (R : Row1 S E a b d) (O : OpenFrom E a b (s + d) r r) where
-  pub begins_past : b ≤ r → BeginsAt S E a b s d 1280
-  begins_past h = begins_none (λ v k l m n. omega (arith, O.past v k (omega arith)))
-
-  pub begins_late : r < b → s < at S r → BeginsAt S E a b s d 1280
-  begins_late h c = begins_none (λ v k l m n.
-      ⊎_elim (λ (q : v < r). omega (arith, O.past v k q))
-      (λ (q : r ≤ v). ⊎_elim (λ (z : r < v). omega (arith, R.rise r v O.from z l, R.long r O.from h)) (λ (z : v ≤ r). let e : r ≡ v = omega arith in omega (arith, ap (at S) e)) (lt_or_ge r v))
-      (lt_or_ge v r))
-
-  pub begins_here : r < b → b ≤ 1280 → at S r ≤ s → BeginsAt S E a b s d r
-  begins_here h k c = record { within = omega arith; from = λ _. O.from; to = λ _. h; begun = λ _. c; fits = λ _. O.rest r (omega arith) h; none = λ e. absurd (omega arith) }
+-- and there may be none
+abbrev pub BeginsAt : List ℕ → List ℕ → ℕ → ℕ → ℕ → ℕ → Option ℕ → Type 0
+BeginsAt S E a b s d None = (v : ℕ) → a ≤ v → v < b → at S v ≤ s → s + d ≤ at E v → ⊥
+BeginsAt S E a b s d (Some r) = Begins S E a b s d r

@@ -13,37 +13,7 @@ ghost use Rattle.search.specs.Relax.{Ground, Relaxed, next_by};
 ghost use Rattle.search.specs.Lanes.{Lanes, is_at_dest};
 ghost use Rattle.search.specs.Trail.{Trailed};
 
-fn wide(x: u8) -> usize
-    ensures { (result ≡ x) × (result < 256) }
-{
-    x as usize
-}
-
-fn broad(x: u16) -> usize
-    ensures { (result ≡ x) × (result < 65536) }
-{
-    x as usize
-}
-
-fn later(a: u32, b: u32) -> u32
-    ensures { result ≡ max a b }
-{
-    if a < b {
-        return b;
-    }
-    a
-}
-
-fn sooner(a: u32, b: u32) -> u32
-    ensures { result ≡ min a b }
-{
-    if a < b {
-        return a;
-    }
-    b
-}
-
-// The least second of lo to hi at which the crossing is not barred, 86,401 where there is none. Most often it is the first.
+// The least second of lo to hi at which the crossing is not barred. Most often it is the first.
 fn first_entry(
     key: &[u64; 1024],
     tail: &[u32; 1024],
@@ -52,24 +22,25 @@ fn first_entry(
     p: u8,
     lo: u32,
     hi: u32,
-) -> u32
+) -> Option<u32>
     requires between { Between key.now tail.now n q p }
     requires hi_bound { hi ≤ 86400 }
     ensures { FirstClear (rows_in key.now tail.now n) q p lo hi result }
 {
     if lo > hi {
-        return 86401;
+        return None;
     }
     if !lookup::barred(key, tail, n, q, p, lo) {
-        return lo;
+        return Some(lo);
     }
     let mut t = lo + 1;
+    // the rules ask for a loop over seconds that yields by `break`, left by a label
     'window: loop {
         if t > hi {
-            break 'window 86401;
+            break 'window None;
         }
         if !lookup::barred(key, tail, n, q, p, t) {
-            break t;
+            break Some(t);
         }
         t += 1;
     }
@@ -99,8 +70,9 @@ fn try_window(
     ensures { Tried (rows_in key.now tail.now n) q p lo hi v w label.old live.old before.old label.new live.new before.new × (Labels label.new live.new before.new × Blocks live.new least.new) }
 {
     if lo < label[v] {
-        let t = first_entry(key, tail, n, q, p, lo, hi);
-        settle::offer(label, live, least, before, v, w, t);
+        if let Some(t) = first_entry(key, tail, n, q, p, lo, hi) {
+            settle::offer(label, live, least, before, v, w, t);
+        }
     }
 }
 
@@ -108,19 +80,9 @@ fn try_window(
 fn first_open(end: &[u32; 1280], a: usize, b: usize, x: u32) -> usize
     requires a_le_b { (a ≤ b) × (b ≤ 1280) }
     requires by_index { (i j : ℕ) → a ≤ i → i ≤ j → j < b → at end.now i ≤ at end.now j }
-    ensures { OpenFrom end.now a b x result result }
+    ensures { OpenFrom end.now a b x result }
 {
-    let mut lo = a;
-    let mut hi = b;
-    while lo < hi {
-        let mid = lo + (hi - lo) / 2;
-        if end[mid] < x {
-            lo = mid + 1;
-        } else {
-            hi = mid;
-        }
-    }
-    lo
+    a + end[a..b].partition_point(|e| *e < x)
 }
 
 // Windows a .. b of place q, of duration d, offered the way through w, which p may be left for from `soonest` to `leave`.
@@ -151,17 +113,14 @@ fn relax_place(
     requires blocks { Blocks live.old least.old }
     ensures { OfferedTo (rows_in key.now tail.now n) q p soonest leave d start.now end.now a b w label.old live.old before.old b label.new live.new before.new × (Labels label.new live.new before.new × Blocks live.new least.new) }
 {
-    let mut v = first_open(end, a, b, soonest + d);
-    while v < b {
+    for v in first_open(end, a, b, soonest + d)..b {
         let from = start[v];
         if from > leave {
             return;
         }
-        let last = end[v] - d;
-        let lo = later(soonest, from);
-        let hi = sooner(leave, last);
+        let lo = soonest.max(from);
+        let hi = leave.min(end[v] - d);
         try_window(key, tail, n, q, p, lo, hi, v, w, label, live, least, before);
-        v += 1;
     }
 }
 
@@ -230,10 +189,11 @@ fn relax(
     ensures { Relaxed (rows_in key.now tail.now n) places links windows dur.now from.now to.now place.now start.now end.now w label.old live.old before.old label.new live.new before.new × (Labels label.new live.new before.new × Blocks live.new least.new) }
 {
     let p = place[w];
-    let here = wide(p);
+    let here = p as usize;
     let soonest = label[w] + dur[here];
     let leave = end[w];
-    let mut cur = broad(head[here]);
+    // the links of p by number, from its last to its first; 0 ends them
+    let mut cur = head[here] as usize;
     while cur > 0 {
         let j = cur - 1;
         let q = to[j];
@@ -241,11 +201,11 @@ fn relax(
             dur, first, start, end, key, tail, n, q, p, soonest, leave, w, label, live, least,
             before,
         );
-        cur = broad(chain[j]);
+        cur = chain[j] as usize;
     }
 }
 
-// The window of the destination of least entry, of those the first, with labels and windows before; 1,280 where none is reached.
+// The window of the destination of least entry, of those the first, with labels and windows before; none where no window of it is reached.
 pub fn search(
     places: usize,
     links: usize,
@@ -268,7 +228,7 @@ pub fn search(
     dest: usize,
     label: &mut [u32; 1280],
     before: &mut [u16; 1280],
-) -> usize
+) -> Option<usize>
     requires lanes { Lanes cap.now dur.now from.now to.now head.now chain.now places links (rows_in key.now tail.now n) n place.now start.now end.now first.now windows }
     requires src_lt_windows { (src < windows) × (s < 86401) }
     requires by_index { (v : ℕ) → v < 1280 → at label.old v ≡ 86401 }
@@ -282,13 +242,9 @@ pub fn search(
     label[src] = s;
     live[src] = s;
     least[src / 32] = s;
-    loop {
-        let w = settle::pick(&live, &least, blocks);
-        if w >= 1280 {
-            return 1280;
-        }
-        if wide(place[w]) == dest {
-            return w;
+    while let Some(w) = settle::pick(&live, &least, blocks) {
+        if place[w] as usize == dest {
+            return Some(w);
         }
         settle::close(&mut live, &mut least, w);
         relax(
@@ -296,32 +252,39 @@ pub fn search(
             tail, n, w, label, &mut live, &mut least, before,
         );
     }
+    None
 }
 
-// The window of a .. b that may be entered at s for d seconds, 1,280 where there is none.
-pub fn begin_at(start: &[u32; 1280], end: &[u32; 1280], a: usize, b: usize, s: u32, d: u32) -> usize
+// The window of a .. b that may be entered at s for d seconds.
+pub fn begin_at(
+    start: &[u32; 1280],
+    end: &[u32; 1280],
+    a: usize,
+    b: usize,
+    s: u32,
+    d: u32,
+) -> Option<usize>
     requires a_le_b { (a ≤ b) × (b ≤ 1280) × (s ≤ 86400) × (d ≤ 3600) }
     requires row1 { Row1 start.now end.now a b d }
     ensures { BeginsAt start.now end.now a b s d result }
 {
     let w = first_open(end, a, b, s + d);
-    if w >= b {
-        return 1280;
+    if w < b && start[w] <= s {
+        Some(w)
+    } else {
+        None
     }
-    if s < start[w] {
-        return 1280;
-    }
-    w
 }
 
-// The windows that lead to w, itself the last, in travel order; how many.
+// The windows that lead to w, itself the last, in travel order; how many. The rules ask for a recursion along the windows before.
+#[tactic(auto, using(crate::specs::Trail::trailed_room))]
 pub fn trail(before: &[u16; 1280], label: &[u32; 1280], w: usize, path: &mut [u16; 1280]) -> usize
     requires rooted { Rooted label.now before.now w }
     requires path_len { length path.old ≡ 1280 }
     ensures { Trailed label.now before.now w result path.new }
 {
-    let v = broad(before[w]);
-    if v < 1 {
+    let v = before[w] as usize;
+    if v == 0 {
         path[0] = w as u16;
         return 1;
     }

@@ -1,6 +1,11 @@
 -- Open labels in blocks of 32 with each block's least: 86,401 is the mark above every second.
-use Rattle.std.specs.Prelude.{ℕ, zero, suc, ◌+◌, ◌*◌, ◌/◌, ◌≤◌, ◌<◌, min, ◌≡◌, refl, ◌⊎◌, List, length, get_or, set}
-use Rattle.std.proofs.Common.{sym, ap, ◌∙◌, inl, inr, ⊎_elim, arith, length-set, get_or-set_same, get_or-set_other, add-one, below_more}
+use Rattle.std.specs.Prelude.{ℕ, zero, suc, ◌+◌, ◌-◌, ◌*◌, ◌/◌, ◌≤◌, ◌<◌, min, ◌≡◌, refl, ◌⊎◌, Option, Some, None, List, [], ◌∷◌, ◌++◌, length, get_or, set, take, drop}
+use Rattle.std.specs.List.{fold}
+use Rattle.std.proofs.Common.{sym, ap, ◌∙◌, inl, inr, ⊎_elim, arith, length-set, get_or-set_same, get_or-set_other}
+use Rattle.std.proofs.lemmas.List.{get_or-drop, get_or-take, length-drop}
+use Rattle.std.proofs.lemmas.List.Sums.{fold-append}
+use Rattle.std.proofs.Math.Seq.{take-suc}
+use Rattle.std.proofs.Common.{length-take-le}
 use Rattle.laws.specs.Order.{lt_or_ge, eq_or_ne}
 use Rattle.label.specs.Label.{Ahead}
 
@@ -19,19 +24,28 @@ pub record FirstLeast (l : List ℕ) (n r : ℕ) : Type 0 where
   pub within : r < n
   pub least : (i : ℕ) → i < n → Ahead (get_or l r 0) r (get_or l i 0) i
 
--- r is the first place from a on at which x stands, below a + 32
-pub record Found (op : List ℕ) (a x r : ℕ) : Type 0 where
-  pub from : a ≤ r
-  pub to : r < a + 32
-  pub is : get_or op r 0 ≡ x
-  pub above : (v : ℕ) → a ≤ v → v < r → x < get_or op v 0
+-- x stands somewhere in l
+pub record Stands (l : List ℕ) (x : ℕ) : Type 0 where
+  pub place : ℕ
+  pub within : place < length l
+  pub is : get_or l place 0 ≡ x
 
--- r is the first of the least of the first n numbers, 1,280 where they are all the mark
-pub record Picked (n : ℕ) (op : List ℕ) (r : ℕ) : Type 0 where
-  pub within : r ≤ 1280
-  pub none : r ≡ 1280 → (v : ℕ) → v < n → 86401 ≤ get_or op v 0
-  pub some : r < 1280 → get_or op r 0 < 86401
-  pub one : r < 1280 → FirstLeast op n r
+-- and first at r
+pub record FirstAt (l : List ℕ) (x r : ℕ) : Type 0 where
+  pub within : r < length l
+  pub is : get_or l r 0 ≡ x
+  pub before : (v : ℕ) → v < r → get_or l v 0 ≡ x → ⊥
+
+-- r is the first of the least of the first n numbers, which is not the mark
+pub record PickedAt (n : ℕ) (op : List ℕ) (r : ℕ) : Type 0 where
+  pub within : r < 1280
+  pub below : get_or op r 0 < 86401
+  pub first : FirstLeast op n r
+
+-- none is picked where all are the mark
+abbrev pub Picked : ℕ → List ℕ → Option ℕ → Type 0
+Picked n op None = (v : ℕ) → v < n → 86401 ≤ get_or op v 0
+Picked n op (Some r) = PickedAt n op r
 
 -- entry t into v, by way of w, was offered to the labels
 pub record Offered (lab op bef : List ℕ) (v w t : ℕ) (lab' op' bef' : List ℕ) : Type 0 where
@@ -110,87 +124,95 @@ module _ {op le : List ℕ} (B : Blocks op le) (w k t : ℕ) (h : 32 * k ≤ w) 
   pub blocks_same : k < 40 → w < 1280 → t ≤ get_or op w 0 → get_or le k 0 ≤ t → Blocks (set op w t) le
   blocks_same b m d c = blocks_keep (omega (arith, B.is k b, low_lower op (32 * k) 32 w t h l (omega (arith, B.len_op)) d))
 
--- ---- the first of the least
+-- ---- the least as the code finds it
 
-pub least_first : {l : List ℕ} → FirstLeast l 1 0
-least_first {l} = record {
-  within = omega arith;
-  least = λ i h. let e : i ≡ 0 = omega arith in rw e (record { le = omega arith; tie = λ _. omega arith });
-}
+-- the least of a stretch is a fold over it
+pub low_fold : (op : List ℕ) (a j : ℕ) → a + j ≤ length op → fold min 86401 (take j (drop a op)) ≡ low op a j
+unfolding low
+low_fold op a zero h = refl
+low_fold op a (suc j) h =
+    let e : take (suc j) (drop a op) ≡ take j (drop a op) ++ (get_or op (a + j) 0 ∷ []) = rw (take-suc (drop a op) j 0 (omega (arith, length-drop a op)), get_or-drop a op j 0) refl in
+    ap (fold min 86401) e ∙ fold-append min 86401 (take j (drop a op)) (get_or op (a + j) 0 ∷ []) ∙ ap (λ x. min x (get_or op (a + j) 0)) (low_fold op a j (omega arith))
 
-module _ {l : List ℕ} {n r : ℕ} (F : FirstLeast l n r) where
-  pub least_less : get_or l n 0 < get_or l r 0 → FirstLeast l (n + 1) n
-  least_less c = record {
-    within = omega arith;
-    least = below_more (λ i. Ahead (get_or l n 0) n (get_or l i 0) i) n
-        (λ i h. record { le = omega (arith, (F.least i h).le); tie = λ q. absurd (omega (arith, (F.least i h).le)) })
-        (record { le = omega arith; tie = λ _. omega arith });
-  }
-
-  pub least_stay : get_or l r 0 ≤ get_or l n 0 → FirstLeast l (n + 1) r
-  least_stay c = record {
-    within = omega (arith, F.within);
-    least = below_more (λ i. Ahead (get_or l r 0) r (get_or l i 0) i) n F.least (record { le = c; tie = λ _. omega (arith, F.within) });
-  }
-
--- the last of the block, where the least is none of the others
-pub found_last : {op : List ℕ} {a x w : ℕ} → low op a 32 ≡ x → x < 86401 → w ≡ a + 31 → ((v : ℕ) → a ≤ v → v < w → x < get_or op v 0) → Found op a x w
-found_last {op} {a} {x} {w} e h q f = record {
-  from = omega arith;
-  to = omega arith;
-  is = ⊎_elim (λ (c : x < get_or op w 0). absurd (omega (arith, low_ge op a 32 (suc x) (omega arith) (λ v l k. all v l k c)))) (λ (c : get_or op w 0 ≤ x). omega (arith, low_le op a 32 w (omega arith) (omega arith))) (lt_or_ge x (get_or op w 0));
-  above = f;
-}
+-- where it is not the mark, it stands there
+low_place : (op : List ℕ) (a j : ℕ) → low op a j < 86401 → (i : ℕ) × (i < j) × (get_or op (a + i) 0 ≡ low op a j)
+unfolding low
+low_place op a zero h = absurd (omega arith)
+low_place op a (suc j) h =
+    ⊎_elim (λ (c : low op a j ≤ get_or op (a + j) 0). let w = low_place op a j (omega arith) in let e = w.2 in (w.0, (let k = w.1 in omega arith), omega arith))
+    (λ (c : get_or op (a + j) 0 < low op a j). (j, omega arith, omega arith))
+    (ge_or_lt (low op a j) (get_or op (a + j) 0))
   where
-    all : (v : ℕ) → a ≤ v → v < a + 32 → x < get_or op w 0 → suc x ≤ get_or op v 0
-    all v l k c = ⊎_elim (λ (d : v < w). omega (arith, f v l d)) (λ (d : w ≤ v). let z : v ≡ w = omega arith in rw z c) (lt_or_ge v w)
+    ge_or_lt : (x y : ℕ) → (x ≤ y) ⊎ (y < x)
+    ge_or_lt x y = ⊎_elim (λ (c : y < x). inr c) (λ (c : x ≤ y). inl c) (lt_or_ge y x)
 
-module _ {op le : List ℕ} (B : Blocks op le) {n k : ℕ} (b : n ≤ 40) (F : FirstLeast le n k) where
-  above_block : (v : ℕ) → v < 32 * n → (i : ℕ) → 32 * i ≤ v → v < 32 * i + 32 → (get_or le k 0 ≤ get_or op v 0) × (get_or op v 0 ≤ get_or le k 0 → k ≤ i)
-  above_block v h i l u =
-      let A = F.least i (omega arith) in
-      let q = B.is i (omega arith) in
-      (omega (arith, A.le, low_le op (32 * i) 32 v l u), λ c. A.tie (omega (arith, low_le op (32 * i) 32 v l u)))
+pub low_stands : (op : List ℕ) (a j : ℕ) → a + j ≤ length op → low op a j < 86401 → Stands (take j (drop a op)) (low op a j)
+low_stands op a j h l =
+    let w = low_place op a j l in
+    let k = w.1 in
+    record {
+      place = w.0;
+      within = omega (arith, length-take-le j (drop a op) (omega (arith, length-drop a op)));
+      is = get_or-take j (drop a op) w.0 0 k ∙ get_or-drop a op w.0 0 ∙ w.2;
+    }
 
-  pub picked_none : 86400 < get_or le k 0 → Picked (32 * n) op 1280
-  picked_none h = record {
-    within = omega arith;
-    none = λ _ v c. omega (arith, (above_block v c (v / 32) (omega arith) (omega arith)).0);
-    some = λ c. absurd (omega arith);
-    one = λ c. absurd (omega arith);
-  }
+-- ---- the node picked
 
-  pub picked_one : {r : ℕ} → get_or le k 0 ≤ 86400 → Found op (32 * k) (get_or le k 0) r → Picked (32 * n) op r
-  picked_one {r} h D = record {
-    within = omega (arith, D.to, F.within);
-    none = λ e. absurd (omega (arith, D.to, F.within));
-    some = λ _. omega (arith, D.is);
-    one = λ _. record {
-      within = omega (arith, D.to, F.within);
-      least = λ v c. record {
-        le = omega (arith, D.is, (above_block v c (v / 32) (omega arith) (omega arith)).0);
-        tie = λ d. by v c ((above_block v c (v / 32) (omega arith) (omega arith)).1 (omega (arith, D.is))) d;
-      };
+module _ {op le : List ℕ} (B : Blocks op le) {n x : ℕ} (b : n ≤ 40) (found : x ≡ fold min 86401 (take n le)) where
+  is_x : x ≡ low le 0 n
+  is_x = found ∙ low_fold le 0 n (omega (arith, B.len_le))
+
+  above_block : (v : ℕ) → v < 32 * n → (x ≤ get_or le (v / 32) 0) × (get_or le (v / 32) 0 ≤ get_or op v 0)
+  above_block v h =
+      (omega (arith, is_x, low_le le 0 n (v / 32) (omega arith) (omega arith)), omega (arith, B.is (v / 32) (omega arith), low_le op (32 * (v / 32)) 32 v (omega arith) (omega arith)))
+
+  pub picked_none : 86400 < x → Picked (32 * n) op None
+  picked_none h v c = let a = above_block v c in let p = a.0 in let q = a.1 in omega arith
+
+  -- a block has it
+  pub least_stands : x ≤ 86400 → Stands (take n le) x
+  least_stands h = rw is_x (low_stands le 0 n (omega (arith, B.len_le)) (omega (arith, is_x)))
+
+  block_in : {k : ℕ} → FirstAt (take n le) x k → k < n
+  block_in F = omega (arith, F.within, length-take-le n le (omega (arith, B.len_le)))
+
+  -- the block that has it holds a window that has it
+  pub block_stands : {k : ℕ} → x ≤ 86400 → FirstAt (take n le) x k → Stands (take 32 (drop (32 * k) op)) x
+  block_stands {k} h F =
+      let i = block_in F in
+      let e : x ≡ low op (32 * k) 32 = sym F.is ∙ get_or-take n le k 0 i ∙ B.is k (omega arith) in
+      rw e (low_stands op (32 * k) 32 (omega (arith, B.len_op)) (omega arith))
+
+  pub picked_one : {k r : ℕ} → x ≤ 86400 → FirstAt (take n le) x k → FirstAt (take 32 (drop (32 * k) op)) x r → Picked (32 * n) op (Some (32 * k + r))
+  picked_one {k} {r} h F D = record {
+    within = omega (arith, block_in F, r-in);
+    below = omega (arith, is_r);
+    first = record {
+      within = omega (arith, block_in F, r-in);
+      least = λ v c.
+          let a = above_block v c in
+          let p = a.0 in
+          let q = a.1 in
+          record { le = omega (arith, is_r); tie = λ d. by v c (omega (arith, is_r)) (omega (arith, is_r)) };
     };
   }
     where
-      by : (v : ℕ) → v < 32 * n → k ≤ v / 32 → get_or op v 0 ≤ get_or op r 0 → r ≤ v
-      by v c m d = ⊎_elim (λ (z : v < r). absurd (omega (arith, D.is, D.above v (omega arith) z))) (λ (z : r ≤ v). z) (lt_or_ge v r)
+      r-in : r < 32
+      r-in = omega (arith, D.within, length-take-le 32 (drop (32 * k) op) (omega (arith, length-drop (32 * k) op, B.len_op, block_in F)))
 
-pub above_more : (op : List ℕ) {a x w : ℕ} → low op a 32 ≡ x → a ≤ w → w < a + 32 → (get_or op w 0 ≡ x → ⊥) → ((v : ℕ) → a ≤ v → v < w → x < get_or op v 0) → (v : ℕ) → a ≤ v → v < w + 1 → x < get_or op v 0
-above_more op {a} {x} {w} e l u ne f v h k =
-    ⊎_elim (λ (c : v < w). f v h c) (λ (c : w ≤ v). let z : v ≡ w = omega arith in rw z (strict (lt_or_ge x (get_or op w 0)))) (lt_or_ge v w)
-  where
-    strict : (x < get_or op w 0) ⊎ (get_or op w 0 ≤ x) → x < get_or op w 0
-    strict (inl c) = c
-    strict (inr c) = absurd (ne (omega (arith, low_le op a 32 w l u)))
+      is_r : get_or op (32 * k + r) 0 ≡ x
+      is_r = sym (get_or-take 32 (drop (32 * k) op) r 0 r-in ∙ get_or-drop (32 * k) op r 0) ∙ D.is
 
-pub low_next : (op : List ℕ) (a i : ℕ) → low op a (i + 1) ≡ min (low op a i) (get_or op (a + i) 0)
-unfolding low
-low_next op a i = rw add-one refl
+      by : (v : ℕ) → v < 32 * n → get_or op v 0 ≡ x → get_or le (v / 32) 0 ≡ x → 32 * k + r ≤ v
+      by v c e f =
+          let i : ℕ = v - 32 * k in
+          ⊎_elim
+          (λ (z : v < 32 * k + r). absurd (
+          ⊎_elim (λ (y : v / 32 < k). F.before (v / 32) y (get_or-take n le (v / 32) 0 (omega arith) ∙ f))
+          (λ (y : k ≤ v / 32). let g : 32 * k + i ≡ v = omega arith in D.before i (omega arith) (get_or-take 32 (drop (32 * k) op) i 0 (omega (arith, r-in)) ∙ get_or-drop (32 * k) op i 0 ∙ ap (λ w. get_or op w 0) g ∙ e))
+          (lt_or_ge (v / 32) k)))
+          (λ (z : 32 * k + r ≤ v). z)
+          (lt_or_ge v (32 * k + r))
 
 pub offer_took : (lab op bef : List ℕ) (v w t : ℕ) → t < get_or lab v 0 → Offered lab op bef v w t (set lab v t) (set op v t) (set bef v (w + 1))
 offer_took lab op bef v w t h = record { took = λ _. (refl, refl, refl); left = λ k. absurd (omega arith) }
-
-pub offer_left : (lab op bef : List ℕ) (v w t : ℕ) → get_or lab v 0 ≤ t → Offered lab op bef v w t lab op bef
-offer_left lab op bef v w t h = record { took = λ k. absurd (omega arith); left = λ _. (refl, refl, refl) }

@@ -1,12 +1,12 @@
 -- The search over arrays, for any next function nx and any goal: what a turn does, the invariant, the way back.
-use Rattle.std.specs.Prelude.{ℕ, zero, suc, ◌+◌, ◌-◌, ◌*◌, ◌/◌, ◌≤◌, ◌<◌, min, ◌≡◌, refl, ◌⊎◌, Bool, true, false, List, length, get_or, set, replicate, ltb}
+use Rattle.std.specs.Prelude.{ℕ, zero, suc, ◌+◌, ◌-◌, ◌*◌, ◌/◌, ◌≤◌, ◌<◌, min, ◌≡◌, refl, ◌⊎◌, Option, Some, None, Bool, true, false, List, length, get_or, set, replicate, ltb}
 use Rattle.std.proofs.Common.{sym, ap, subst, ◌∙◌, inl, inr, ⊎_elim, arith, length-set, get_or-set_same, get_or-set_other, ltb-true, ltb-false, lt-ltb, le-ltb}
 use Rattle.std.proofs.lemmas.List.{length-replicate, get_or-replicate}
 use Rattle.std.proofs.Math.ListN.{get_or-eq_default}
 use Rattle.laws.specs.Order.{lt_or_ge, eq_or_ne, strong}
 use Rattle.laws.specs.Tests.{true_or_false, not_both}
 use Rattle.label.specs.Label.{Pick, At, Inv, Backs, OnWay, Sought, Known, begin, turn, stop, backs_stop, known_stop, known_end, not_sought, way, at_ge, at_lt}
-use Rattle.settle.specs.Blocks.{low, Blocks, Picked, Offered, low_ge, low_top, blocks_lower}
+use Rattle.settle.specs.Blocks.{low, Blocks, PickedAt, Picked, Offered, low_ge, low_top, blocks_lower}
 
 abbrev pub top : ℕ
 top = 86401
@@ -41,19 +41,26 @@ pub data Long (bef : List ℕ) : ℕ → ℕ → Type 0 where
   one : (v : ℕ) → get_or bef v 0 ≡ 0 → Long bef v 1
   more : (v k : ℕ) → 0 < get_or bef v 0 → Long bef (bef_of bef v) k → Long bef v (k + 1)
 
--- what the search has found: the first goal and its way back, or that there is none; and what the labels of all nodes are: each entry up to
--- the goal's, where the search stopped, or, where there is no goal, each entry of the day
-pub record Answer (n : ℕ) (nx : ℕ → ℕ → ℕ → ℕ) (goal : ℕ → Bool) (src s : ℕ) (lab bef : List ℕ) (r : ℕ) : Type 0 where
-  pub within : r ≤ 1280
-  pub none : r ≡ 1280 → (v t : ℕ) → goal v ≡ true → At n top src s nx v t → ⊥
-  pub sought : r < 1280 → Sought n top src s nx goal r (dist_of lab r)
-  pub backs : r < 1280 → Backs n top src s nx (OnWay n top src s nx (bef_of bef) r) (dist_of lab) (bef_of bef)
-  pub rooted : r < 1280 → Rooted lab bef r
-  pub begun : r < 1280 → get_or bef src 0 ≡ 0
-  pub tied : r < 1280 → (v : ℕ) → v < n → get_or lab v 0 < top → (v ≡ src → ⊥) → 0 < get_or bef v 0
-  pub known : r < 1280 → Known n top src s nx (dist_of lab) (dist_of lab r)
-  pub known_all : r ≡ 1280 → Known n top src s nx (dist_of lab) 86400
+-- the search has found the first goal, r, and its way back; labels are entries up to r's, where it stopped
+pub record Reached (n : ℕ) (nx : ℕ → ℕ → ℕ → ℕ) (goal : ℕ → Bool) (src s : ℕ) (lab bef : List ℕ) (r : ℕ) : Type 0 where
+  pub within : r < 1280
+  pub sought : Sought n top src s nx goal r (dist_of lab r)
+  pub backs : Backs n top src s nx (OnWay n top src s nx (bef_of bef) r) (dist_of lab) (bef_of bef)
+  pub rooted : Rooted lab bef r
+  pub begun : get_or bef src 0 ≡ 0
+  pub tied : (v : ℕ) → v < n → get_or lab v 0 < top → (v ≡ src → ⊥) → 0 < get_or bef v 0
+  pub known : Known n top src s nx (dist_of lab) (dist_of lab r)
   pub marked : (v : ℕ) → dist_of lab v ≤ top
+
+-- the search has found that no goal is reached; labels are the entries of the whole day
+pub record Unreached (n : ℕ) (nx : ℕ → ℕ → ℕ → ℕ) (goal : ℕ → Bool) (src s : ℕ) (lab : List ℕ) : Type 0 where
+  pub none : (v t : ℕ) → goal v ≡ true → At n top src s nx v t → ⊥
+  pub known_all : Known n top src s nx (dist_of lab) 86400
+  pub marked : (v : ℕ) → dist_of lab v ≤ top
+
+abbrev pub Answer : (n : ℕ) (nx : ℕ → ℕ → ℕ → ℕ) (goal : ℕ → Bool) (src s : ℕ) (lab bef : List ℕ) → Option ℕ → Type 0
+Answer n nx goal src s lab bef None = Unreached n nx goal src s lab
+Answer n nx goal src s lab bef (Some r) = Reached n nx goal src s lab bef r
 
 pub record Going (n : ℕ) (nx : ℕ → ℕ → ℕ → ℕ) (goal : ℕ → Bool) (src s : ℕ) (lab op le bef : List ℕ) : Type 0 where
   pub inv : Inv n top src s nx (done_of lab op) (dist_of lab) (bef_of bef)
@@ -215,206 +222,198 @@ blocks_start n m e q = record {
   is = λ k h. get_or-replicate m k top 0 (omega arith) ∙ sym (low_mark (replicate n top) (32 * k) 32 (λ v a b. get_or-replicate n v top 0 (omega arith)));
 }
 
-module _ {n : ℕ} {nx : ℕ → ℕ → ℕ → ℕ} {goal : ℕ → Bool} {src s : ℕ} (n-in : n ≤ 1280) (src_in : src < n) (s-in : s < top)
-    (mono : (w v e e' : ℕ) → w < n → e ≤ e' → nx w v e ≤ nx w v e')
-    (later : (w v e : ℕ) → w < n → e < top → e < nx w v e)
-  where
-    start_of : (o m : ℕ) → o ≡ 1280 → m ≡ 40 → (lab bef : List ℕ) → length lab ≡ 1280 → length bef ≡ 1280 → get_or bef src 0 ≡ 0 → ((v : ℕ) → v < 1280 → get_or lab v 0 ≡ top)
-        → Going n nx goal src s (set lab src s) (set (replicate o top) src s) (set (replicate m top) (src / 32) s) bef
-    start_of o m en em lab bef hl hb zb f = record {
-      inv = begin n top src s nx open_all src_in (get_or-set_same lab src s 0 (omega arith)) (λ v h ne. get_or-set_other lab src v s 0 ne ∙ f v (omega arith));
-      blocks = blocks_lower (blocks_start o m en em) src (src / 32) s (omega arith) (omega arith) (omega arith) (omega arith)
-          (omega (arith, get_or-replicate o src top 0 (omega arith))) (omega (arith, get_or-replicate m (src / 32) top 0 (omega arith)));
-      above = λ v. omega (arith, same v);
-      shut = λ v h c. absurd (omega (arith, same v));
-      below = λ v. ⊎_elim (λ e. rw e (omega (arith, get_or-set_same lab src s 0 (omega arith)))) (λ ne. omega (arith, get_or-set_other lab src v s 0 ne, fresh v)) (eq_or_ne v src);
-      goals = λ w h d. absurd (not_both d (open_all w h));
-      begun = zb;
-      tied = λ v h l ne. absurd (omega (arith, get_or-set_other lab src v s 0 ne, f v (omega arith)));
-      beyond = λ v h k. get_or-set_other (replicate o top) src v s 0 (λ e. omega arith) ∙ get_or-replicate o v top 0 (omega arith);
-      len_lab = length-set lab src s ∙ hl;
-      len_bef = hb;
-    }
-      where
-        fresh : (v : ℕ) → get_or lab v 0 ≤ top
-        fresh v = ⊎_elim (λ (c : v < 1280). omega (arith, f v c)) (λ (c : 1280 ≤ v). omega (arith, get_or-eq_default lab 0 {n = v} (omega arith))) (lt_or_ge v 1280)
+-- what a search begins with: few nodes, a node src entered at s, and a next function that is monotone and strictly later
+pub record Steps (n : ℕ) (nx : ℕ → ℕ → ℕ → ℕ) (src s : ℕ) : Type 0 where
+  pub few : n ≤ 1280
+  pub src_in : src < n
+  pub s_in : s < top
+  pub mono : (w v e e' : ℕ) → w < n → e ≤ e' → nx w v e ≤ nx w v e'
+  pub later : (w v e : ℕ) → w < n → e < top → e < nx w v e
 
-        same : (v : ℕ) → get_or (set lab src s) v 0 ≡ get_or (set (replicate o top) src s) v 0
-        same v =
-            ⊎_elim (λ e. rw e (get_or-set_same lab src s 0 (omega arith) ∙ sym (get_or-set_same (replicate o top) src s 0 (omega (arith, length-replicate o top)))))
-            (λ ne. get_or-set_other lab src v s 0 ne ∙ (
-            ⊎_elim (λ (c : v < 1280). f v c ∙ sym (get_or-replicate o v top 0 (omega arith)))
-            (λ (c : 1280 ≤ v). get_or-eq_default lab 0 {n = v} (omega arith) ∙ sym (get_or-eq_default (replicate o top) 0 {n = v} (omega (arith, length-replicate o top))))
-            (lt_or_ge v 1280) ∙ sym (get_or-set_other (replicate o top) src v s 0 ne)))
+module _ {n : ℕ} {nx : ℕ → ℕ → ℕ → ℕ} {goal : ℕ → Bool} {src s : ℕ} (O : Steps n nx src s) where
+  start_of : (o m : ℕ) → o ≡ 1280 → m ≡ 40 → (lab bef : List ℕ) → length lab ≡ 1280 → length bef ≡ 1280 → get_or bef src 0 ≡ 0 → ((v : ℕ) → v < 1280 → get_or lab v 0 ≡ top)
+      → Going n nx goal src s (set lab src s) (set (replicate o top) src s) (set (replicate m top) (src / 32) s) bef
+  start_of o m en em lab bef hl hb zb f = record {
+    inv = begin n top src s nx open_all O.src_in (get_or-set_same lab src s 0 (omega arith)) (λ v h ne. get_or-set_other lab src v s 0 ne ∙ f v (omega arith));
+    blocks = blocks_lower (blocks_start o m en em) src (src / 32) s (omega arith) (omega arith) (omega arith) (omega arith)
+        (omega (arith, get_or-replicate o src top 0 (omega arith))) (omega (arith, get_or-replicate m (src / 32) top 0 (omega arith)));
+    above = λ v. omega (arith, same v);
+    shut = λ v h c. absurd (omega (arith, same v));
+    below = λ v. ⊎_elim (λ e. rw e (omega (arith, get_or-set_same lab src s 0 (omega arith)))) (λ ne. omega (arith, get_or-set_other lab src v s 0 ne, fresh v)) (eq_or_ne v src);
+    goals = λ w h d. absurd (not_both d (open_all w h));
+    begun = zb;
+    tied = λ v h l ne. absurd (omega (arith, get_or-set_other lab src v s 0 ne, f v (omega arith)));
+    beyond = λ v h k. get_or-set_other (replicate o top) src v s 0 (λ e. omega arith) ∙ get_or-replicate o v top 0 (omega arith);
+    len_lab = length-set lab src s ∙ hl;
+    len_bef = hb;
+  }
+    where
+      fresh : (v : ℕ) → get_or lab v 0 ≤ top
+      fresh v = ⊎_elim (λ (c : v < 1280). omega (arith, f v c)) (λ (c : 1280 ≤ v). omega (arith, get_or-eq_default lab 0 {n = v} (omega arith))) (lt_or_ge v 1280)
+
+      same : (v : ℕ) → get_or (set lab src s) v 0 ≡ get_or (set (replicate o top) src s) v 0
+      same v =
+          ⊎_elim (λ e. rw e (get_or-set_same lab src s 0 (omega arith) ∙ sym (get_or-set_same (replicate o top) src s 0 (omega (arith, length-replicate o top)))))
+          (λ ne. get_or-set_other lab src v s 0 ne ∙ (
+          ⊎_elim (λ (c : v < 1280). f v c ∙ sym (get_or-replicate o v top 0 (omega arith)))
+          (λ (c : 1280 ≤ v). get_or-eq_default lab 0 {n = v} (omega arith) ∙ sym (get_or-eq_default (replicate o top) 0 {n = v} (omega (arith, length-replicate o top))))
+          (lt_or_ge v 1280) ∙ sym (get_or-set_other (replicate o top) src v s 0 ne)))
+          (eq_or_ne v src)
+
+      open_all : (v : ℕ) → v < n → done_of (set lab src s) (set (replicate o top) src s) v ≡ false
+      open_all v h = le-ltb (get_or (set lab src s) v 0) (get_or (set (replicate o top) src s) v 0) (omega (arith, same v))
+
+  pub going_start : (lab bef : List ℕ) → length lab ≡ 1280 → length bef ≡ 1280 → get_or bef src 0 ≡ 0 → ((v : ℕ) → v < 1280 → get_or lab v 0 ≡ top)
+      → Going n nx goal src s (set lab src s) (set (replicate 1280 top) src s) (set (replicate 40 top) (src / 32) s) bef
+  going_start lab bef hl hb zb f = start_of 1280 40 refl refl lab bef hl hb zb f
+
+  -- an open node's open label is its label
+  is_open : {lab op le bef : List ℕ} → Going n nx goal src s lab op le bef → (v : ℕ) → done_of lab op v ≡ false → get_or op v 0 ≡ get_or lab v 0
+  is_open {lab} {op} G v o = omega (arith, G.above v, ltb-false (get_or lab v 0) (get_or op v 0) o)
+
+  pub going_none : {lab op le bef : List ℕ} {top_of : ℕ} → Going n nx goal src s lab op le bef → n ≤ top_of → Picked top_of op None → Answer n nx goal src s lab bef None
+  going_none {lab} {op} G n-of P = record {
+    none = not_sought n top src s nx O.src_in O.s_in O.mono O.later G.inv all_open G.goals;
+    known_all = known_end n top src s nx O.src_in O.s_in O.mono O.later G.inv all_open 86400 refl;
+    marked = G.below;
+  }
+    where
+      all_open : (v : ℕ) → v < n → done_of lab op v ≡ false → top ≤ dist_of lab v
+      all_open v h o = omega (arith, P v (omega arith), is_open G v o)
+
+  module _ {lab op le bef : List ℕ} {u top_of : ℕ} (G : Going n nx goal src s lab op le bef) (n-of : n ≤ top_of) (P : PickedAt top_of op u) where
+    -- what is picked is a node
+    pub in_n : u < n
+    in_n = ⊎_elim (λ (c : u < n). c) (λ (c : n ≤ u). absurd (omega (arith, G.beyond u c P.within, P.below))) (lt_or_ge u n)
+
+    same_u : get_or op u 0 ≡ get_or lab u 0
+    same_u = ⊎_elim (λ (c : get_or lab u 0 < get_or op u 0). absurd (omega (arith, G.shut u in_n c, P.below))) (λ (c : get_or op u 0 ≤ get_or lab u 0). omega (arith, G.above u)) (lt_or_ge (get_or lab u 0) (get_or op u 0))
+
+    pub low_u : get_or lab u 0 < top
+    low_u = omega (arith, same_u, P.below)
+
+    undone_u : done_of lab op u ≡ false
+    undone_u = le-ltb (get_or lab u 0) (get_or op u 0) (omega (arith, same_u))
+
+    pick_of : Pick n (done_of lab op) (dist_of lab) u
+    pick_of = record {
+      within = in_n;
+      undone = undone_u;
+      least = λ v h o.
+          let A = P.first.least v (omega arith) in
+          record { le = omega (arith, A.le, same_u, is_open G v o); tie = λ c. A.tie (omega (arith, same_u, is_open G v o)) };
+    }
+
+    rooted_of : {S : ℕ → Type 0} → Backs n top src s nx S (dist_of lab) (bef_of bef) → (v : ℕ) → v < n → S v → Rooted lab bef v
+    rooted_of {S} B v h m = strong (λ x. (v : ℕ) → v < n → S v → get_or lab v 0 ≡ x → Rooted lab bef v) step (get_or lab v 0) v h m refl
+      where
+        step : (x : ℕ) → ((y : ℕ) → y < x → (v : ℕ) → v < n → S v → get_or lab v 0 ≡ y → Rooted lab bef v) → (v : ℕ) → v < n → S v → get_or lab v 0 ≡ x → Rooted lab bef v
+        step x ih v h m e =
+            ⊎_elim (λ q. rw q (root src (omega arith) G.begun))
+            (λ q.
+            let d = B.falls v h m q in
+            link v (omega arith) (G.tied v h (at_lt n top src s nx O.s_in (B.first v h m).at) q) d
+            (ih (get_or lab (bef_of bef v) 0) (omega arith) (bef_of bef v) (B.best v h m q).within (B.inside v h m q) refl))
             (eq_or_ne v src)
 
-        open_all : (v : ℕ) → v < n → done_of (set lab src s) (set (replicate o top) src s) v ≡ false
-        open_all v h = le-ltb (get_or (set lab src s) v 0) (get_or (set (replicate o top) src s) v 0) (omega (arith, same v))
-
-    pub going_start : (lab bef : List ℕ) → length lab ≡ 1280 → length bef ≡ 1280 → get_or bef src 0 ≡ 0 → ((v : ℕ) → v < 1280 → get_or lab v 0 ≡ top)
-        → Going n nx goal src s (set lab src s) (set (replicate 1280 top) src s) (set (replicate 40 top) (src / 32) s) bef
-    going_start lab bef hl hb zb f = start_of 1280 40 refl refl lab bef hl hb zb f
-
-    module _ {lab op le bef : List ℕ} {u top_of : ℕ} (G : Going n nx goal src s lab op le bef) (n-of : n ≤ top_of) (P : Picked top_of op u) where
-      -- an open node's open label is its label
-      is_open : (v : ℕ) → done_of lab op v ≡ false → get_or op v 0 ≡ get_or lab v 0
-      is_open v o = omega (arith, G.above v, ltb-false (get_or lab v 0) (get_or op v 0) o)
-
-      pub going_none : u ≡ 1280 → Answer n nx goal src s lab bef 1280
-      going_none e = record {
-        within = omega arith;
-        none = λ _. not_sought n top src s nx src_in s-in mono later G.inv all_open G.goals;
-        sought = λ h. absurd (omega arith);
-        backs = λ h. absurd (omega arith);
-        rooted = λ h. absurd (omega arith);
-        begun = λ h. absurd (omega arith);
-        tied = λ h. absurd (omega arith);
-        known = λ h. absurd (omega arith);
-        known_all = λ _. known_end n top src s nx src_in s-in mono later G.inv all_open 86400 refl;
-        marked = G.below;
-      }
-        where
-          all_open : (v : ℕ) → v < n → done_of lab op v ≡ false → top ≤ dist_of lab v
-          all_open v h o = omega (arith, P.none e v (omega arith), is_open v o)
-
-      -- what is picked is a node
-      pub in_n : u < 1280 → u < n
-      in_n k = ⊎_elim (λ (c : u < n). c) (λ (c : n ≤ u). absurd (omega (arith, G.beyond u c k, P.some k))) (lt_or_ge u n)
-
-      module _ (k₁ : u < 1280) where
-        k : u < n
-        k = in_n k₁
-
-        same_u : get_or op u 0 ≡ get_or lab u 0
-        same_u = ⊎_elim (λ (c : get_or lab u 0 < get_or op u 0). absurd (omega (arith, G.shut u k c, P.some k₁))) (λ (c : get_or op u 0 ≤ get_or lab u 0). omega (arith, G.above u)) (lt_or_ge (get_or lab u 0) (get_or op u 0))
-
-        pub low_u : get_or lab u 0 < top
-        low_u = omega (arith, same_u, P.some k₁)
-
-        undone_u : done_of lab op u ≡ false
-        undone_u = le-ltb (get_or lab u 0) (get_or op u 0) (omega (arith, same_u))
-
-        pick_of : Pick n (done_of lab op) (dist_of lab) u
-        pick_of = record {
-          within = k;
-          undone = undone_u;
-          least = λ v h o.
-              let A = (P.one k₁).least v (omega arith) in
-              record { le = omega (arith, A.le, same_u, is_open v o); tie = λ c. A.tie (omega (arith, same_u, is_open v o)) };
+    pub going_goal : goal u ≡ true → Answer n nx goal src s lab bef (Some u)
+    going_goal g =
+        let B = backs_stop n top src s nx O.src_in O.s_in O.mono O.later G.inv pick_of low_u in
+        record {
+          within = P.within;
+          sought = stop n top src s nx O.src_in O.s_in O.mono O.later G.inv pick_of low_u G.goals g;
+          backs = way n top src s nx B u in_n (inr refl);
+          rooted = rooted_of B u in_n (inr refl);
+          begun = G.begun;
+          tied = G.tied;
+          known = known_stop n top src s nx O.src_in O.s_in O.mono O.later G.inv pick_of low_u;
+          marked = G.below;
         }
 
-        rooted_of : {S : ℕ → Type 0} → Backs n top src s nx S (dist_of lab) (bef_of bef) → (v : ℕ) → v < n → S v → Rooted lab bef v
-        rooted_of {S} B v h m = strong (λ x. (v : ℕ) → v < n → S v → get_or lab v 0 ≡ x → Rooted lab bef v) step (get_or lab v 0) v h m refl
-          where
-            step : (x : ℕ) → ((y : ℕ) → y < x → (v : ℕ) → v < n → S v → get_or lab v 0 ≡ y → Rooted lab bef v) → (v : ℕ) → v < n → S v → get_or lab v 0 ≡ x → Rooted lab bef v
-            step x ih v h m e =
-                ⊎_elim (λ q. rw q (root src (omega arith) G.begun))
-                (λ q.
-                let d = B.falls v h m q in
-                link v (omega arith) (G.tied v h (at_lt n top src s nx s-in (B.first v h m).at) q) d
-                (ih (get_or lab (bef_of bef v) 0) (omega arith) (bef_of bef v) (B.best v h m q).within (B.inside v h m q) refl))
-                (eq_or_ne v src)
+    node : {v : ℕ} → v < n → In 0 n v
+    node h = record { from = omega arith; to = h }
 
-        pub going_goal : goal u ≡ true → Answer n nx goal src s lab bef u
-        going_goal g =
-            let B = backs_stop n top src s nx src_in s-in mono later G.inv pick_of low_u in
-            record {
-              within = omega (arith, k₁);
-              none = λ e. absurd (omega (arith, k₁));
-              sought = λ _. stop n top src s nx src_in s-in mono later G.inv pick_of low_u G.goals g;
-              backs = λ _. way n top src s nx B u k (inr refl);
-              rooted = λ _. rooted_of B u k (inr refl);
-              begun = λ _. G.begun;
-              tied = λ _. G.tied;
-              known = λ _. known_stop n top src s nx src_in s-in mono later G.inv pick_of low_u;
-              known_all = λ e. absurd (omega (arith, k₁));
-              marked = G.below;
-            }
+    no_node : {v : ℕ} → n ≤ v → In 0 n v → ⊥
+    no_node h z = omega (arith, z.to)
 
-        node : {v : ℕ} → v < n → In 0 n v
-        node h = record { from = omega arith; to = h }
+    above_set : (v : ℕ) → get_or lab v 0 ≤ get_or (set op u top) v 0
+    above_set v = ⊎_elim (λ e. rw e (omega (arith, low_u, get_or-set_same op u top 0 (omega (arith, G.blocks.len_op))))) (λ ne. omega (arith, get_or-set_other op u v top 0 ne, G.above v)) (eq_or_ne v u)
 
-        no_node : {v : ℕ} → n ≤ v → In 0 n v → ⊥
-        no_node h z = omega (arith, z.to)
+    pub closed_above : {op₁ : List ℕ} → op₁ ≡ set op u top → (v : ℕ) → get_or lab v 0 ≤ get_or op₁ v 0
+    closed_above e v = rw e (above_set v)
 
-        above_set : (v : ℕ) → get_or lab v 0 ≤ get_or (set op u top) v 0
-        above_set v = ⊎_elim (λ e. rw e (omega (arith, low_u, get_or-set_same op u top 0 (omega (arith, G.blocks.len_op))))) (λ ne. omega (arith, get_or-set_other op u v top 0 ne, G.above v)) (eq_or_ne v u)
+    module _ {op₁ lab' op' bef' : List ℕ} (shut-u : op₁ ≡ set op u top) (R₁ : Through (In 0 n) (λ v. nx u v (get_or lab u 0)) u lab op₁ bef lab' op' bef') where
+      R : Through (In 0 n) (λ v. nx u v (get_or lab u 0)) u lab (set op u top) bef lab' op' bef'
+      R = subst (λ o. Through (In 0 n) (λ v. nx u v (get_or lab u 0)) u lab o bef lab' op' bef') shut-u R₁
 
-        pub closed_above : {op₁ : List ℕ} → op₁ ≡ set op u top → (v : ℕ) → get_or lab v 0 ≤ get_or op₁ v 0
-        closed_above e v = rw e (above_set v)
+      lat : (v : ℕ) → get_or lab u 0 < nx u v (get_or lab u 0)
+      lat v = O.later u v (get_or lab u 0) in_n low_u
 
-        module _ {op₁ lab' op' bef' : List ℕ} (shut-u : op₁ ≡ set op u top) (R₁ : Through (In 0 n) (λ v. nx u v (get_or lab u 0)) u lab op₁ bef lab' op' bef') where
-          R : Through (In 0 n) (λ v. nx u v (get_or lab u 0)) u lab (set op u top) bef lab' op' bef'
-          R = subst (λ o. Through (In 0 n) (λ v. nx u v (get_or lab u 0)) u lab o bef lab' op' bef') shut-u R₁
+      lab_u : get_or lab' u 0 ≡ get_or lab u 0
+      lab_u = omega (arith, R.better u (node in_n), lat u)
 
-          lat : (v : ℕ) → get_or lab u 0 < nx u v (get_or lab u 0)
-          lat v = later u v (get_or lab u 0) k low_u
+      op_u : get_or op' u 0 ≡ top
+      op_u = (R.left u (node in_n) (omega (arith, lat u))).0 ∙ get_or-set_same op u top 0 (omega (arith, G.blocks.len_op))
 
-          lab_u : get_or lab' u 0 ≡ get_or lab u 0
-          lab_u = omega (arith, R.better u (node k), lat u)
+      pub done_u : done_of lab' op' u ≡ true
+      done_u = lt-ltb (get_or lab' u 0) (get_or op' u 0) (omega (arith, lab_u, op_u, low_u))
 
-          op_u : get_or op' u 0 ≡ top
-          op_u = (R.left u (node k) (omega (arith, lat u))).0 ∙ get_or-set_same op u top 0 (omega (arith, G.blocks.len_op))
+      -- where a node takes the offer, it is open before and after
+      took_open : (v : ℕ) → v < n → nx u v (get_or lab u 0) < get_or lab v 0 → done_of lab op v ≡ false
+      took_open v h c = ⊎_elim (λ d. absurd (omega (arith, (G.inv.order v u h in_n d undone_u).le, lat v))) (λ o. o) (true_or_false (done_of lab op v))
 
-          pub done_u : done_of lab' op' u ≡ true
-          done_u = lt-ltb (get_or lab' u 0) (get_or op' u 0) (omega (arith, lab_u, op_u, low_u))
+      other : (v : ℕ) → (v ≡ u → ⊥) → get_or (set op u top) v 0 ≡ get_or op v 0
+      other v ne = get_or-set_other op u v top 0 ne
 
-          -- where a node takes the offer, it is open before and after
-          took_open : (v : ℕ) → v < n → nx u v (get_or lab u 0) < get_or lab v 0 → done_of lab op v ≡ false
-          took_open v h c = ⊎_elim (λ d. absurd (omega (arith, (G.inv.order v u h k d undone_u).le, lat v))) (λ o. o) (true_or_false (done_of lab op v))
+      pub done_other : (v : ℕ) → (v ≡ u → ⊥) → done_of lab' op' v ≡ done_of lab op v
+      done_other v ne =
+          ⊎_elim
+          (λ (h : v < n).
+          ⊎_elim
+          (λ (c : nx u v (get_or lab u 0) < get_or lab v 0). le-ltb (get_or lab' v 0) (get_or op' v 0) (omega (arith, R.better v (node h), (R.took v (node h) c).0)) ∙ sym (took_open v h c))
+          (λ (c : get_or lab v 0 ≤ nx u v (get_or lab u 0)).
+          let a : get_or lab' v 0 ≡ get_or lab v 0 = omega (arith, R.better v (node h)) in
+          let b : get_or op' v 0 ≡ get_or op v 0 = (R.left v (node h) c).0 ∙ other v ne in
+          ap (λ x. ltb x (get_or op' v 0)) a ∙ ap (ltb (get_or lab v 0)) b)
+          (lt_or_ge (nx u v (get_or lab u 0)) (get_or lab v 0)))
+          (λ (h : n ≤ v). ap (λ x. ltb x (get_or op' v 0)) (R.rest v (no_node h)).0 ∙ ap (ltb (get_or lab v 0)) ((R.rest v (no_node h)).1 ∙ other v ne))
+          (lt_or_ge v n)
 
-          other : (v : ℕ) → (v ≡ u → ⊥) → get_or (set op u top) v 0 ≡ get_or op v 0
-          other v ne = get_or-set_other op u v top 0 ne
+      pub going_less : opens (done_of lab' op') n < opens (done_of lab op) n
+      going_less = opens_less (done_of lab op) (done_of lab' op') n u in_n undone_u done_u done_other
 
-          pub done_other : (v : ℕ) → (v ≡ u → ⊥) → done_of lab' op' v ≡ done_of lab op v
-          done_other v ne =
+      pub going_turn : {le' : List ℕ} → goal u ≡ false → Blocks op' le' → Going n nx goal src s lab' op' le' bef'
+      going_turn {le'} g B = record {
+        inv = turn n top src s nx O.src_in O.s_in O.mono O.later G.inv pick_of low_u done_u done_other (λ v h. R.better v (node h))
+            (λ v h c. omega (arith, (R.took v (node h) c).1)) (λ v h c. omega (arith, (R.left v (node h) c).1));
+        blocks = B;
+        above = through_above R (in_or_out 0 n) above_set;
+        shut = shut';
+        below = λ v. ⊎_elim (λ (c : v < n). omega (arith, R.better v (node c), G.below v)) (λ (c : n ≤ v). omega (arith, (R.rest v (no_node c)).0, G.below v)) (lt_or_ge v n);
+        goals = λ w h d. ⊎_elim (λ e. rw e g) (λ ne. G.goals w h (sym (done_other w ne) ∙ d)) (eq_or_ne w u);
+        begun = (R.left src (node O.src_in) (omega (arith, G.inv.start, at_ge n top src s nx O.src_in O.s_in O.mono O.later (G.inv.real u in_n low_u), lat src))).1 ∙ G.begun;
+        tied = tied';
+        beyond = λ v h z. (R.rest v (no_node h)).1 ∙ (other v (λ e. omega (arith, in_n)) ∙ G.beyond v h z);
+        len_lab = R.len_lab ∙ G.len_lab;
+        len_bef = R.len_bef ∙ G.len_bef;
+      }
+        where
+          tied' : (v : ℕ) → v < n → get_or lab' v 0 < top → (v ≡ src → ⊥) → 0 < get_or bef' v 0
+          tied' v h l ne =
+              ⊎_elim (λ (c : nx u v (get_or lab u 0) < get_or lab v 0). omega (arith, (R.took v (node h) c).1))
+              (λ (c : get_or lab v 0 ≤ nx u v (get_or lab u 0)). omega (arith, (R.left v (node h) c).1, G.tied v h (omega (arith, R.better v (node h))) ne))
+              (lt_or_ge (nx u v (get_or lab u 0)) (get_or lab v 0))
+
+          shut' : (v : ℕ) → v < n → get_or lab' v 0 < get_or op' v 0 → get_or op' v 0 ≡ top
+          shut' v h c =
+              ⊎_elim (λ e. rw e op_u)
+              (λ ne.
+              let d : ltb (get_or lab v 0) (get_or op v 0) ≡ true = sym (done_other v ne) ∙ lt-ltb (get_or lab' v 0) (get_or op' v 0) c in
               ⊎_elim
-              (λ (h : v < n).
-              ⊎_elim
-              (λ (c : nx u v (get_or lab u 0) < get_or lab v 0). le-ltb (get_or lab' v 0) (get_or op' v 0) (omega (arith, R.better v (node h), (R.took v (node h) c).0)) ∙ sym (took_open v h c))
-              (λ (c : get_or lab v 0 ≤ nx u v (get_or lab u 0)).
-              let a : get_or lab' v 0 ≡ get_or lab v 0 = omega (arith, R.better v (node h)) in
-              let b : get_or op' v 0 ≡ get_or op v 0 = (R.left v (node h) c).0 ∙ other v ne in
-              ap (λ x. ltb x (get_or op' v 0)) a ∙ ap (ltb (get_or lab v 0)) b)
+              (λ (z : nx u v (get_or lab u 0) < get_or lab v 0). absurd (not_both d (took_open v h z)))
+              (λ (z : get_or lab v 0 ≤ nx u v (get_or lab u 0)). (R.left v (node h) z).0 ∙ (other v ne ∙ G.shut v h (ltb-true (get_or lab v 0) (get_or op v 0) d)))
               (lt_or_ge (nx u v (get_or lab u 0)) (get_or lab v 0)))
-              (λ (h : n ≤ v). ap (λ x. ltb x (get_or op' v 0)) (R.rest v (no_node h)).0 ∙ ap (ltb (get_or lab v 0)) ((R.rest v (no_node h)).1 ∙ other v ne))
-              (lt_or_ge v n)
-
-          pub going_less : opens (done_of lab' op') n < opens (done_of lab op) n
-          going_less = opens_less (done_of lab op) (done_of lab' op') n u k undone_u done_u done_other
-
-          pub going_turn : {le' : List ℕ} → goal u ≡ false → Blocks op' le' → Going n nx goal src s lab' op' le' bef'
-          going_turn {le'} g B = record {
-            inv = turn n top src s nx src_in s-in mono later G.inv pick_of low_u done_u done_other (λ v h. R.better v (node h))
-                (λ v h c. omega (arith, (R.took v (node h) c).1)) (λ v h c. omega (arith, (R.left v (node h) c).1));
-            blocks = B;
-            above = through_above R (in_or_out 0 n) above_set;
-            shut = shut';
-            below = λ v. ⊎_elim (λ (c : v < n). omega (arith, R.better v (node c), G.below v)) (λ (c : n ≤ v). omega (arith, (R.rest v (no_node c)).0, G.below v)) (lt_or_ge v n);
-            goals = λ w h d. ⊎_elim (λ e. rw e g) (λ ne. G.goals w h (sym (done_other w ne) ∙ d)) (eq_or_ne w u);
-            begun = (R.left src (node src_in) (omega (arith, G.inv.start, at_ge n top src s nx src_in s-in mono later (G.inv.real u k low_u), lat src))).1 ∙ G.begun;
-            tied = tied';
-            beyond = λ v h z. (R.rest v (no_node h)).1 ∙ (other v (λ e. omega (arith, k)) ∙ G.beyond v h z);
-            len_lab = R.len_lab ∙ G.len_lab;
-            len_bef = R.len_bef ∙ G.len_bef;
-          }
-            where
-              tied' : (v : ℕ) → v < n → get_or lab' v 0 < top → (v ≡ src → ⊥) → 0 < get_or bef' v 0
-              tied' v h l ne =
-                  ⊎_elim (λ (c : nx u v (get_or lab u 0) < get_or lab v 0). omega (arith, (R.took v (node h) c).1))
-                  (λ (c : get_or lab v 0 ≤ nx u v (get_or lab u 0)). omega (arith, (R.left v (node h) c).1, G.tied v h (omega (arith, R.better v (node h))) ne))
-                  (lt_or_ge (nx u v (get_or lab u 0)) (get_or lab v 0))
-
-              shut' : (v : ℕ) → v < n → get_or lab' v 0 < get_or op' v 0 → get_or op' v 0 ≡ top
-              shut' v h c =
-                  ⊎_elim (λ e. rw e op_u)
-                  (λ ne.
-                  let d : ltb (get_or lab v 0) (get_or op v 0) ≡ true = sym (done_other v ne) ∙ lt-ltb (get_or lab' v 0) (get_or op' v 0) c in
-                  ⊎_elim
-                  (λ (z : nx u v (get_or lab u 0) < get_or lab v 0). absurd (not_both d (took_open v h z)))
-                  (λ (z : get_or lab v 0 ≤ nx u v (get_or lab u 0)). (R.left v (node h) z).0 ∙ (other v ne ∙ G.shut v h (ltb-true (get_or lab v 0) (get_or op v 0) d)))
-                  (lt_or_ge (nx u v (get_or lab u 0)) (get_or lab v 0)))
-                  (eq_or_ne v u)
+              (eq_or_ne v u)
 
 -- ---- the way back
 
@@ -425,7 +424,3 @@ rooted_in (link v h b d r) = h
 pub rooted_back : {lab bef : List ℕ} {v : ℕ} → Rooted lab bef v → 0 < get_or bef v 0 → Rooted lab bef (bef_of bef v) × (get_or lab (bef_of bef v) 0 < get_or lab v 0)
 rooted_back (root v h e) z = absurd (omega arith)
 rooted_back (link v h b d r) z = (r, d)
-
-pub rooted_small : {lab bef : List ℕ} {v : ℕ} → Rooted lab bef v → get_or bef v 0 ≤ 1280
-rooted_small (root v h e) = omega arith
-rooted_small (link v h b d r) = omega (arith, rooted_in r)

@@ -1,83 +1,39 @@
 // Label setting over lent arrays: the choice of the next node through block minima.
 #![tactic(auto)]
 
-ghost use Rattle.std.specs.Prelude.{◌≡◌, ◌+◌, ◌*◌, ◌≤◌, ◌<◌, min, get_or, set};
-ghost use Rattle.settle.specs.Blocks.{low, Blocks, FirstLeast, Found, Picked, Offered};
+ghost use Rattle.std.specs.Prelude.{◌≡◌, ◌+◌, ◌*◌, ◌≤◌, ◌<◌, min, length, get_or, set};
+ghost use Rattle.std.specs.List.{fold};
+ghost use Rattle.settle.specs.Blocks.{Blocks, Stands, FirstAt, Picked, Offered};
 
-fn sooner(a: u32, b: u32) -> u32
-    ensures { result ≡ min a b }
+// the least of the entries, the mark 86,401 where none is open
+fn least_of(entries: &[u32]) -> u32
+    ensures { result ≡ fold min 86401 entries.now }
 {
-    if a < b {
-        return a;
-    }
-    b
+    entries.iter().fold(86401, |x, y| x.min(*y))
 }
 
-// the first block of least entry
-fn least_block(least: &[u32; 40], blocks: usize) -> usize
-    requires le_blocks { 1 ≤ blocks }
-    requires blocks_bound { blocks ≤ 40 }
-    ensures { FirstLeast least.now blocks result }
+// where x first stands
+fn first_at(entries: &[u32], x: u32) -> usize
+    requires { Stands entries.now x }
+    ensures { FirstAt entries.now x result }
 {
-    let mut k = 0;
-    let mut x = least[0];
-    let mut j = 1;
-    while j < blocks {
-        let y = least[j];
-        if y < x {
-            x = y;
-            k = j;
-        }
-        j += 1;
-    }
-    k
+    entries.iter().position(|y| *y == x).unwrap()
 }
 
-// the first node from a on whose entry is x
-fn first_in(live: &[u32; 1280], a: usize, x: u32) -> usize
-    requires a_bound { a + 32 ≤ 1280 }
-    requires a_value { low live.now a 32 ≡ x }
-    requires x_bound { x < 86401 }
-    ensures { Found live.now a x result }
-{
-    let e = a + 31;
-    let mut w = a;
-    while w < e {
-        if live[w] == x {
-            return w;
-        }
-        w += 1;
-    }
-    w
-}
-
-// the open node of least entry, of those the first; 1,280 where none is open
-pub fn pick(live: &[u32; 1280], least: &[u32; 40], blocks: usize) -> usize
+// the open node of least entry, of those the first
+pub fn pick(live: &[u32; 1280], least: &[u32; 40], blocks: usize) -> Option<usize>
     requires le_blocks { 1 ≤ blocks }
     requires blocks_bound { blocks ≤ 40 }
     requires blocks { Blocks live.now least.now }
     ensures { Picked (32 * blocks) live.now result }
 {
-    let k = least_block(least, blocks);
-    let x = least[k];
+    let x = least_of(&least[..blocks]);
     if x > 86400 {
-        return 1280;
+        return None;
     }
-    first_in(live, 32 * k, x)
-}
-
-// the least of the 32 entries from a on
-fn least_of(live: &[u32; 1280], a: usize) -> u32
-    requires { a + 32 ≤ 1280 }
-    ensures { result ≡ low live.now a 32 }
-{
-    let mut x: u32 = 86401;
-    let mut i = 0;
-    while i < 32 {
-        x = sooner(x, live[a + i]);
-        i += 1;
-    }
-    x
+    let k = first_at(&least[..blocks], x);
+    let a = 32 * k;
+    Some(a + first_at(&live[a..a + 32], x))
 }
 
 // node w is open no more
@@ -88,8 +44,8 @@ pub fn close(live: &mut [u32; 1280], least: &mut [u32; 40], w: usize)
 {
     live[w] = 86401;
     let k = w / 32;
-    let x = least_of(live, 32 * k);
-    least[k] = x;
+    let a = 32 * k;
+    least[k] = least_of(&live[a..a + 32]);
 }
 
 // entry t into v by way of w, taken where it is sooner than what v has

@@ -1,8 +1,7 @@
 -- "each with its earliest entry": asked for a place that is not on the map, the search runs to its end, and leaves to every window its earliest entry or
 -- the mark.
-use Rattle.std.specs.Prelude.{ℕ, ◌+◌, ◌≤◌, ◌<◌, ◌≡◌, ◌⊎◌, List}
-use Rattle.std.proofs.Common.{⊎_elim, arith, eqb-true}
-use Rattle.laws.specs.Order.{lt_or_ge}
+use Rattle.std.specs.Prelude.{ℕ, ◌+◌, ◌≤◌, ◌<◌, ◌≡◌, ◌⊎◌, Option, Some, None, List}
+use Rattle.std.proofs.Common.{arith, eqb-true}
 use Rattle.laws.specs.Lists.{at}
 use Rattle.rules.specs.declared.Row.{Row}
 use Rattle.rules.specs.Rows.{load}
@@ -20,14 +19,14 @@ use Rattle.planner.specs.Choice.{src_in, src_place, src_enter}
 
 pub every_window : {C D F T H N : List ℕ} {n k : ℕ} {rows : List Row} {c : ℕ} {P S E I : List ℕ} {m : ℕ} (L : Lanes C D F T H N n k rows c P S E I m)
     → ((p t : ℕ) → p < (yard_in C D n F T k).places → load rows p t ≤ (yard_in C D n F T k).cap p) → (start s nowhere : ℕ) → start < n → n ≤ nowhere
-    → {src : ℕ} → s ≤ 86400 → BeginsAt S E (at I start) (at I (start + 1)) s (at D start) src → src < 1280
-    → {lab bef : List ℕ} {r : ℕ} → Answer m (next_by (yard_in C D n F T k) rows P S E) (is_at_dest P nowhere) src s lab bef r
+    → {src : ℕ} → s ≤ 86400 → BeginsAt S E (at I start) (at I (start + 1)) s (at D start) (Some src)
+    → (lab bef : List ℕ) (r : Option ℕ) → Answer m (next_by (yard_in C D n F T k) rows P S E) (is_at_dest P nowhere) src s lab bef r
     → (i : ℕ) → i < m
     → Earliest (yard_in C D n F T k) rows start s (span_at P S E i) (at lab i)
     ⊎ ((at lab i ≡ 86401) × ((t : ℕ) → Enters (yard_in C D n F T k) rows start s (span_at P S E i) t → ⊥))
-every_window {C} {D} {F} {T} {n = n} {k = k} {rows = rows} {P = P} {S = S} {E = E} {m = m} L booked start s nowhere on off {src = src} s-in B b {lab = lab} {r = r} A =
+every_window {C} {D} {F} {T} {n = n} {k = k} {rows = rows} {P = P} {S = S} {E = E} {m = m} L booked start s nowhere on off {src = src} s-in B lab bef None A =
     entry_or_mark Y rows start s m win {label = at lab}
-    (known_entries Y rows start s m win L.windows (yard_rules L.rules) booked src (src_in L booked start start s on on s-in B b) (src_enter L booked start start s on on s-in B b) (src_place L booked start start s on on s-in B b) (A.known_all ended))
+    (known_entries Y rows start s m win L.windows (yard_rules L.rules) booked src (src_in L booked start start s on on s-in B) (src_enter L booked start start s on on s-in B) (src_place L booked start start s on on s-in B) A.known_all)
     (λ i h. A.marked i)
   where
     Y : Yard
@@ -35,10 +34,6 @@ every_window {C} {D} {F} {T} {n = n} {k = k} {rows = rows} {P = P} {S = S} {E = 
 
     win : ℕ → Span
     win = span_at P S E
-
-    -- no window is one of a place that there is not
-    ended : r ≡ 1280
-    ended = ⊎_elim
-        (λ (h : r < 1280). let g = A.sought h in absurd (omega (arith, eqb-true (at P r) nowhere g.wanted, group_place L.by_place r g.within)))
-        (λ (h : 1280 ≤ r). omega (arith, A.within))
-        (lt_or_ge r 1280)
+-- no window is one of a place that there is not
+every_window {P = P} L booked start s nowhere on off s-in B lab bef (Some r) A =
+    absurd (omega (arith, eqb-true (at P r) nowhere A.sought.wanted, group_place L.by_place r A.sought.within))

@@ -5,10 +5,6 @@ use Rattle.std.proofs.Common.{sym, subst, ◌∙◌, inl, inr, ⊎_elim, arith}
 use Rattle.rules.specs.declared.Row.{Row}
 use Rattle.rules.specs.declared.Map.{Map}
 use Rattle.rules.specs.declared.Book.{Book}
-use Rattle.rules.specs.declared.Planned.{Planned}
-use Rattle.rules.specs.declared.Paged.{Paged}
-use Rattle.rules.specs.declared.Booking.{Booking}
-use Rattle.rules.specs.declared.Cancelling.{Cancelling}
 use Rattle.rules.specs.Map.{Yard}
 use Rattle.rules.specs.Rows.{Key}
 use Rattle.rules.specs.Fault.{Fault}
@@ -16,7 +12,7 @@ use Rattle.rules.specs.Fault.Fault.{miscounted, unrising, broken, overfull, barr
 use Rattle.rules.specs.Gate.{Papers, papers_of, BookGood, Checked}
 use Rattle.rules.specs.Gate.Checked.{bad_map as map-refused, bad_book as book_refused, sound}
 use Rattle.rules.specs.GateLaws.{unless, fault_unique, fault_breaks, at_gate}
-use Rattle.rules.specs.Answer.{PlanSays, planned_number, planned_count, BookIs, booked_number, booked_count, CancelIs, cancelled_number, cancelled_count, PageSays, paged_number, paged_count}
+use Rattle.rules.specs.Answer.{Planned, Paged, Booking, Cancelling, PlanSays, answer_number, planned_count, BookIs, booked_count, CancelIs, cancelled_count, PageSays, paged_count}
 
 -- done, or refused by one of the calls' own numbers
 abbrev pub Own : ℕ → Type 0
@@ -81,23 +77,23 @@ own_at : {n : ℕ} (k : ℕ) → 3 ≤ k → k ≤ 12 → n ≡ k → Own n
 own_at k a b e = inr (omega arith, omega arith)
 
 module _ {g : Papers} where
-  pub plan_judged : {start dest s : ℕ} {was out : List ℕ} {r : Planned} → PlanSays g start dest s was out r → Judged g (planned_number r) (planned_count r)
-  plan_judged {r = r} = judged (planned_number r) (planned_count r) (λ m j x. (x.code, x.counts))
+  pub plan_judged : {start dest s : ℕ} {was out : List ℕ} {r : Planned} → PlanSays g start dest s was out r → Judged g (answer_number r) (planned_count r)
+  plan_judged {r = r} = judged (answer_number r) (planned_count r) (λ m j x. (x.code, x.counts))
       (unless (λ x. own_at 3 (omega arith) (omega arith) x.code) (λ _. unless (λ x. own_at 4 (omega arith) (omega arith) x.code)
       (λ _. unless (λ x. own_at 5 (omega arith) (omega arith) x.code) (λ _ c. unless (λ x. own_at 6 (omega arith) (omega arith) x.code) (λ _ x. inl x.code) c.2))))
 
-  pub page_judged : {size : ℕ} {k : Key} {was out : List ℕ} {r : Paged} → PageSays g size k was out r → Judged g (paged_number r) (paged_count r)
-  page_judged {r = r} = judged (paged_number r) (paged_count r) (λ m j x. (x.code, x.counts))
+  pub page_judged : {size : ℕ} {k : Key} {was out : List ℕ} {r : Paged} → PageSays g size k was out r → Judged g (answer_number r) (paged_count r)
+  page_judged {r = r} = judged (answer_number r) (paged_count r) (λ m j x. (x.code, x.counts))
       (unless (λ x. own_at 10 (omega arith) (omega arith) x.code) (λ _. unless (λ x. own_at 11 (omega arith) (omega arith) x.code)
       (λ _. unless (λ x. own_at 6 (omega arith) (omega arith) x.code) (λ _ x. inl x.code))))
 
 module _ {m : Map} {b : Book} where
-  pub book_judged : {start dest s : ℕ} {r : Booking} → BookIs m b start dest s r → Judged (papers_of m b) (booked_number r.answer) (booked_count r.answer)
-  book_judged {r = r} = judged (booked_number r.answer) (booked_count r.answer) (λ m j x. (x.code, x.counts))
+  pub book_judged : {start dest s : ℕ} {r : Booking} → BookIs m b start dest s r → Judged (papers_of m b) (answer_number r.answer) (booked_count r.answer)
+  book_judged {r = r} = judged (answer_number r.answer) (booked_count r.answer) (λ m j x. (x.code, x.counts))
       (unless (λ x. own_at 3 (omega arith) (omega arith) x.code) (λ _. unless (λ x. own_at 4 (omega arith) (omega arith) x.code)
       (λ _. unless (λ x. own_at 8 (omega arith) (omega arith) x.code) (λ _. unless (λ x. own_at 5 (omega arith) (omega arith) x.code)
       (λ _ c. unless (λ x. own_at 7 (omega arith) (omega arith) x.code) (λ _ x. inl x.code) c.2)))))
 
-  pub cancel_judged : {ticket : ℕ} {r : Cancelling} → CancelIs m b ticket r → Judged (papers_of m b) (cancelled_number r.answer) (cancelled_count r.answer)
-  cancel_judged {r = r} = judged (cancelled_number r.answer) (cancelled_count r.answer) (λ m j x. (x.code, x.counts))
+  pub cancel_judged : {ticket : ℕ} {r : Cancelling} → CancelIs m b ticket r → Judged (papers_of m b) (answer_number r.answer) (cancelled_count r.answer)
+  cancel_judged {r = r} = judged (answer_number r.answer) (cancelled_count r.answer) (λ m j x. (x.code, x.counts))
       (unless (λ x. own_at 9 (omega arith) (omega arith) x.code) (λ _ x. inl x.code))

@@ -11,15 +11,13 @@ use Rattle.laws.specs.Tests.{not_both}
 use Rattle.rules.specs.declared.Map.{Map}
 use Rattle.rules.specs.declared.Book.{Book}
 use Rattle.rules.specs.declared.Row.{Row}
-use Rattle.rules.specs.declared.Booking.{Booking}
-use Rattle.rules.specs.declared.Cancelling.{Cancelling}
 use Rattle.rules.specs.Map.{Yard}
 use Rattle.rules.specs.Rows.{Key, row_key, Less, Rising, load, choose, keep, insert_all}
 use Rattle.rules.specs.RowLaws.{leads_fewer}
 use Rattle.rules.specs.Plan.{Stay, stay_at, Permitted, run_rows}
 use Rattle.rules.specs.Book.{WellFormed, Whole, of_ticket, other_ticket}
 use Rattle.rules.specs.GateLaws.{unless, checked}
-use Rattle.rules.specs.Answer.{BookIs, BookingIs, CancelIs, CancellingIs}
+use Rattle.rules.specs.Answer.{Booking, Cancelling, BookIs, BookingIs, CancelIs, CancellingIs}
 use Rattle.keeping.specs.OrderLaws.{less_trans, less_irrefl}
 use Rattle.keeping.specs.Chains.{chain_below, rising_tail, rising_chain}
 use Rattle.keeping.specs.Changes.{mem_keep, keep_rising, mem_all, all_old, all_new, AllNew, all_rising}

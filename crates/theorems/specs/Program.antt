@@ -6,16 +6,12 @@ use Rattle.laws.specs.Tests.{not_both}
 use Rattle.rules.specs.declared.Map.{Map}
 use Rattle.rules.specs.declared.Book.{Book}
 use Rattle.rules.specs.declared.State.{State}
-use Rattle.rules.specs.declared.Planned.{Planned}
-use Rattle.rules.specs.declared.Paged.{Paged}
-use Rattle.rules.specs.declared.Booking.{Booking}
-use Rattle.rules.specs.declared.Cancelling.{Cancelling}
 use Rattle.rules.specs.Map.{map_yard}
 use Rattle.rules.specs.Rows.{Key}
 use Rattle.rules.specs.Book.{GoodBook, book_of}
 use Rattle.rules.specs.Bytes.{byte_at}
 use Rattle.rules.specs.GateLaws.{unless, checked_good}
-use Rattle.rules.specs.Answer.{PlanIs, BookIs, CancelIs, PageIs, planned_number, booked_number, cancelled_number, paged_number}
+use Rattle.rules.specs.Answer.{Planned, Paged, Booking, Cancelling, PlanIs, BookIs, CancelIs, PageIs, answer_number}
 use Rattle.rules.specs.Frames.{digit, hex_of, line_of, after00, begins, closed_state, Frame, Said, PlaceFrame, LinkFrame, PlanFrame, BookFrame, CancelFrame, PageFrame, FrameSays, LineSays, LinesSay}
 use Rattle.rules.specs.Frames.LinesSay.{none, more}
 use Rattle.keeping.specs.Calls.{empty_good, booking_good, cancelling_good}
@@ -86,21 +82,21 @@ module _ {k : ℕ} (bad : of_book k ≡ true) where
   other e c good = not_both bad (ap of_book (sym e ∙ c) ∙ good)
 
   module _ {m : Map} {b : Book} (B : GoodBook (map_yard m) b) where
-    plan_other : {start dest s : ℕ} {was out : List ℕ} {r : Planned} → PlanIs m b start dest s was out r → planned_number r ≡ k → ⊥
+    plan_other : {start dest s : ℕ} {was out : List ℕ} {r : Planned} → PlanIs m b start dest s was out r → answer_number r ≡ k → ⊥
     plan_other P e =
         checked_good B (λ x. other e x.code refl) (λ M. unless (λ x. other e x.code refl) (λ on. unless (λ x. other e x.code refl)
         (λ d. unless (λ x. other e x.code refl) (λ some c. unless (λ x. other e x.code refl) (λ fits x. other e x.code refl) c.2)))) P
 
-    book_other : {start dest s : ℕ} {r : Booking} → BookIs m b start dest s r → booked_number r.answer ≡ k → ⊥
+    book_other : {start dest s : ℕ} {r : Booking} → BookIs m b start dest s r → answer_number r.answer ≡ k → ⊥
     book_other P e =
         checked_good B (λ x. other e x.code refl) (λ M. unless (λ x. other e x.code refl) (λ on. unless (λ x. other e x.code refl)
         (λ d. unless (λ x. other e x.code refl) (λ t. unless (λ x. other e x.code refl)
         (λ some c. unless (λ x. other e x.code refl) (λ fits x. other e x.code refl) c.2))))) P
 
-    cancel_other : {ticket : ℕ} {r : Cancelling} → CancelIs m b ticket r → cancelled_number r.answer ≡ k → ⊥
+    cancel_other : {ticket : ℕ} {r : Cancelling} → CancelIs m b ticket r → answer_number r.answer ≡ k → ⊥
     cancel_other P e = checked_good B (λ x. other e x.code refl) (λ M. unless (λ x. other e x.code refl) (λ known x. other e x.code refl)) P
 
-    page_other : {size : ℕ} {c : Key} {was out : List ℕ} {r : Paged} → PageIs m b size c was out r → paged_number r ≡ k → ⊥
+    page_other : {size : ℕ} {c : Key} {was out : List ℕ} {r : Paged} → PageIs m b size c was out r → answer_number r ≡ k → ⊥
     page_other P e =
         checked_good B (λ x. other e x.code refl) (λ M. unless (λ x. other e x.code refl) (λ sized. unless (λ x. other e x.code refl)
         (λ fits. unless (λ x. other e x.code refl) (λ room x. other e x.code refl)))) P
@@ -129,10 +125,10 @@ never_of_book {s} {s'} {line} {said} S p k bad e =
     twelve
     (λ _. unless twelve (λ c x. nought x))
     (λ _. unless twelve (λ c x. nought x))
-    (λ _ p. plan_other bad S.good p.is (printed (planned_number p.answer) k _ _ p.said_so e))
-    (λ _ p. book_other bad S.good p.is (printed_line (booked_number p.answer.answer) k _ p.said_so e))
-    (λ _ p. cancel_other bad S.good p.is (printed_line (cancelled_number p.answer.answer) k _ p.said_so e))
-    (λ _ p. page_other bad S.good p.is (printed (paged_number p.answer) k _ _ p.said_so e))
+    (λ _ p. plan_other bad S.good p.is (printed (answer_number p.answer) k _ _ p.said_so e))
+    (λ _ p. book_other bad S.good p.is (printed_line (answer_number p.answer.answer) k _ p.said_so e))
+    (λ _ p. cancel_other bad S.good p.is (printed_line (answer_number p.answer.answer) k _ p.said_so e))
+    (λ _ p. page_other bad S.good p.is (printed (answer_number p.answer) k _ _ p.said_so e))
     p
   where
     twelve : {t : State} → Said t (line_of (12 ∷ [])) s' said → ⊥

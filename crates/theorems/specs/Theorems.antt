@@ -9,10 +9,6 @@ use Rattle.rules.specs.declared.Map.{Map}
 use Rattle.rules.specs.declared.Book.{Book}
 use Rattle.rules.specs.declared.Row.{Row}
 use Rattle.rules.specs.declared.State.{State}
-use Rattle.rules.specs.declared.Planned.{Planned}
-use Rattle.rules.specs.declared.Paged.{Paged}
-use Rattle.rules.specs.declared.Booking.{Booking}
-use Rattle.rules.specs.declared.Cancelling.{Cancelling}
 use Rattle.rules.specs.Limits.{day}
 use Rattle.rules.specs.Map.{Yard, GoodMap, map_yard}
 use Rattle.rules.specs.Rows.{Key, first_key, Rising, load, Barred, Ring, keep, insert_all}
@@ -25,7 +21,7 @@ use Rattle.rules.specs.Bytes.{records, written}
 use Rattle.rules.specs.Fault.{FirstBad, Fault}
 use Rattle.rules.specs.Gate.{Papers, papers_of}
 use Rattle.rules.specs.GateLaws.{unless, past, checked, passed}
-use Rattle.rules.specs.Answer.{over, PlanSays, PlanIs, PlanRecords, Planning, planned_number, planned_arrival, planned_count, BookIs, BookingIs, booked_number, booked_ticket, booked_arrival, booked_count, CancelIs, CancellingIs, Known, cancelled_number, cancelled_count, PageSays, PageIs, PageRecords, PagingIs, paged_number, paged_count}
+use Rattle.rules.specs.Answer.{Planned, Paged, Booking, Cancelling, over, PlanSays, PlanIs, PlanRecords, Planning, answer_number, planned_arrival, planned_count, BookIs, BookingIs, booked_ticket, booked_arrival, booked_count, CancelIs, CancellingIs, Known, cancelled_count, PageSays, PageIs, PageRecords, PagingIs, paged_count}
 use Rattle.lanes.specs.Yards.{yard_rules}
 use Rattle.lanes.specs.Beginning.{beginning, beginning_permitted, beginning_entry, Lies, stay_lies}
 use Rattle.lanes.specs.Chosen.{chosen_best}
@@ -69,7 +65,7 @@ pub record Given (m : Map) (b : Book) (start dest s : ℕ) (was out : List ℕ) 
   pub holds : out ≡ written (run_rows 0 plan) was
 
 module _ {m : Map} {b : Book} {start dest s : ℕ} {was out : List ℕ} {r : Planned} (P : PlanIs m b start dest s was out r) where
-  pub plan_is_best : planned_number r ≡ 0 → Given m b start dest s was out r
+  pub plan_is_best : answer_number r ≡ 0 → Given m b start dest s was out r
   plan_is_best z =
       checked (λ n i h x. absurd (omega (arith, h.some, x.code))) (λ M B. unless wrong (λ on. unless wrong (λ d. unless wrong (λ some c.
       unless wrong (λ fits x. given M B on c.0 c.1 x) c.2)))) P
@@ -84,17 +80,17 @@ module _ {m : Map} {b : Book} {start dest s : ℕ} {was out : List ℕ} {r : Pla
           record { plan = plan; permitted = best.0; soonest = best.1; chosen = c; arrives = x.arrives; counts = x.counts; holds = x.holds }
 
   -- "'no plan' is given exactly when none exists by the day's end"
-  pub no_plan_exists : planned_number r ≡ 5 → (plan : List Stay) → Permitted (map_yard m) (rows_of b) start dest s plan → ⊥
+  pub no_plan_exists : answer_number r ≡ 5 → (plan : List Stay) → Permitted (map_yard m) (rows_of b) start dest s plan → ⊥
   no_plan_exists z plan p =
       checked (λ n i h x. h.apart (omega (arith, x.code)) (omega (arith, x.code))) (λ M B. unless (λ u. omega (arith, u.code)) (λ on. unless (λ v. omega (arith, v.code))
       (λ d w. ⊎_elim (λ y. y.0 (plan, p)) (λ y. unless (λ q. omega (arith, q.code)) (λ fits q. omega (arith, q.code)) y.1.2) w))) P
 
   pub none_is_refused : GoodMap m → GoodBook (map_yard m) b → (start < (map_yard m).places) × (dest < (map_yard m).places) → s ≤ day
-      → ((plan : List Stay) → Permitted (map_yard m) (rows_of b) start dest s plan → ⊥) → planned_number r ≡ 5
+      → ((plan : List Stay) → Permitted (map_yard m) (rows_of b) start dest s plan → ⊥) → answer_number r ≡ 5
   none_is_refused M B on d f = unless (λ x. x.code) (λ some _. absurd (f some.0 some.1)) (past d (past on (passed M B P)))
 
   -- demand 1: "a refusal changes neither the book nor the caller's answer buffer"
-  pub refusal_leaves_the_list : 0 < planned_number r → out ≡ was
+  pub refusal_leaves_the_list : 0 < answer_number r → out ≡ was
   refusal_leaves_the_list z =
       checked (λ n i _. left) (λ M B. unless left (λ on. unless left (λ d. unless left (λ some c. unless left (λ fits x. absurd (omega (arith, x.code))) c.2)))) P
     where
@@ -130,7 +126,7 @@ pub record Added (m : Map) (b : Book) (start dest s : ℕ) (r : Booking) : Type 
   pub next_up : r.book.next_ticket ≡ b.next_ticket + 1
 
 module _ {m : Map} {b : Book} {start dest s : ℕ} {r : Booking} (P : BookIs m b start dest s r) where
-  pub booking_adds : booked_number r.answer ≡ 0 → Added m b start dest s r
+  pub booking_adds : answer_number r.answer ≡ 0 → Added m b start dest s r
   booking_adds z =
       checked (λ n i h x. absurd (omega (arith, h.some, x.code))) (λ M B. unless wrong (λ on. unless wrong (λ d. unless wrong (λ t. unless wrong (λ some c.
       unless wrong (λ fits x. added c.0 c.1 x) c.2))))) P
@@ -156,7 +152,7 @@ module _ {m : Map} {b : Book} {start dest s : ℕ} {r : Booking} (P : BookIs m b
             next_up = ap (λ (z : Book). z.next_ticket) x.holds;
           }
 
-  pub refused_booking_changes_nothing : 0 < booked_number r.answer → r.book ≡ b
+  pub refused_booking_changes_nothing : 0 < answer_number r.answer → r.book ≡ b
   refused_booking_changes_nothing z =
       checked (λ n i _. left) (λ M B. unless left (λ on. unless left (λ d. unless left (λ t. unless left (λ some c.
       unless left (λ fits x. absurd (omega (arith, x.code))) c.2))))) P
@@ -172,7 +168,7 @@ pub record Taken (b : Book) (ticket : ℕ) (r : Cancelling) : Type 0 where
   pub next_stays : r.book.next_ticket ≡ b.next_ticket
 
 module _ {m : Map} {b : Book} {ticket : ℕ} {r : Cancelling} (P : CancelIs m b ticket r) where
-  pub cancelling_removes : cancelled_number r.answer ≡ 0 → Taken b ticket r
+  pub cancelling_removes : answer_number r.answer ≡ 0 → Taken b ticket r
   cancelling_removes z = checked (λ n i h x. absurd (omega (arith, h.some, x.code))) (λ M B. unless wrong (λ known x. taken x)) P
     where
       wrong : {n c : ℕ} {l : Book} → CancellingIs (suc n) c l r → Taken b ticket r
@@ -196,7 +192,7 @@ pub record Freed (m : Map) (b : Book) (ticket : ℕ) (r : Cancelling) : Type 0 w
   pub permitted_again : PermittedRun (map_yard m) (rows_of r.book) run.plan
 
 module _ {m : Map} {b : Book} {ticket : ℕ} {r : Cancelling} (P : CancelIs m b ticket r) where
-  pub the_room_is_free_again : cancelled_number r.answer ≡ 0 → Freed m b ticket r
+  pub the_room_is_free_again : answer_number r.answer ≡ 0 → Freed m b ticket r
   the_room_is_free_again z = checked (λ n i h x. absurd (omega (arith, h.some, x.code))) (λ M B. unless wrong (λ known x. freed M B known x)) P
     where
       wrong : {n c : ℕ} {l : Book} → CancellingIs (suc n) c l r → Freed m b ticket r
@@ -215,8 +211,8 @@ module _ {m : Map} {b : Book} {ticket : ℕ} {r : Cancelling} (P : CancelIs m b 
           }
 
   -- "a cancelled ticket's number given out again" can't be: whatever others plan, book, cancel and look at in between, no booking issues it
-  pub a_cancelled_ticket_is_never_issued_again : cancelled_number r.answer ≡ 0 → {c : Book} → Others m r.book c → {start dest s : ℕ} {later : Booking} → BookIs m c start dest s later
-      → booked_number later.answer ≡ 0 → booked_ticket later.answer ≡ ticket → ⊥
+  pub a_cancelled_ticket_is_never_issued_again : answer_number r.answer ≡ 0 → {c : Book} → Others m r.book c → {start dest s : ℕ} {later : Booking} → BookIs m c start dest s later
+      → answer_number later.answer ≡ 0 → booked_ticket later.answer ≡ ticket → ⊥
   a_cancelled_ticket_is_never_issued_again z {c} o L done e =
       checked (λ n i h x. omega (arith, h.some, x.code)) (λ M B. unless wrong (λ known x.
       omega (arith, (row_ranges (book_formed B) known.row known.booked).ticket_to, known.has, cancelling_next P, others_next o, (booking_adds L done).issues))) P
@@ -226,7 +222,7 @@ module _ {m : Map} {b : Book} {ticket : ℕ} {r : Cancelling} (P : CancelIs m b 
 
 -- ---- demand 2: "a page shows exactly the next rows after its cursor"
 
-pub page_shows : {m : Map} {b : Book} {size : ℕ} {k : Key} {was out : List ℕ} {r : Paged} → PageIs m b size k was out r → paged_number r ≡ 0
+pub page_shows : {m : Map} {b : Book} {size : ℕ} {k : Key} {was out : List ℕ} {r : Paged} → PageIs m b size k was out r → answer_number r ≡ 0
     → PagingIs 0 (length (page_rows size k (rows_of b))) (page_more size k (rows_of b)) (last_key k (page_rows size k (rows_of b))) (written (page_rows size k (rows_of b)) was) out r
 page_shows {m} {b} {size} {k} {was} {out} {r} P z =
     checked (λ n i h x. absurd (omega (arith, h.some, x.code))) (λ M B. unless wrong (λ sized. unless wrong (λ fits. unless wrong (λ room x. x)))) P
@@ -293,19 +289,19 @@ the_row_is_in_the_book = fault_row
 -- what each call's number and count say of map and book, by value and as slices (`Judged` in Faults.antt): it is done or refused by a number of its own exactly
 -- where both are good, by 1 exactly where the map is not, and else by the one number and row at which the book is at fault
 pub a_plan_tells_the_fault : {g : Papers} {start dest s : ℕ} {was out : List ℕ} {r : Planned} → PlanSays g start dest s was out r
-    → Judged g (planned_number r) (planned_count r)
+    → Judged g (answer_number r) (planned_count r)
 a_plan_tells_the_fault = plan_judged
 
 pub a_booking_tells_the_fault : {m : Map} {b : Book} {start dest s : ℕ} {r : Booking} → BookIs m b start dest s r
-    → Judged (papers_of m b) (booked_number r.answer) (booked_count r.answer)
+    → Judged (papers_of m b) (answer_number r.answer) (booked_count r.answer)
 a_booking_tells_the_fault = book_judged
 
 pub a_cancellation_tells_the_fault : {m : Map} {b : Book} {ticket : ℕ} {r : Cancelling} → CancelIs m b ticket r
-    → Judged (papers_of m b) (cancelled_number r.answer) (cancelled_count r.answer)
+    → Judged (papers_of m b) (answer_number r.answer) (cancelled_count r.answer)
 a_cancellation_tells_the_fault = cancel_judged
 
 pub a_page_tells_the_fault : {g : Papers} {size : ℕ} {k : Key} {was out : List ℕ} {r : Paged} → PageSays g size k was out r
-    → Judged g (paged_number r) (paged_count r)
+    → Judged g (answer_number r) (paged_count r)
 a_page_tells_the_fault = page_judged
 
 -- 13 is the first row whose key is not above the one before it; at 15 the row's own place is overfilled by the rows up to it, and at 16 its crossing closes a ring

@@ -5,10 +5,6 @@ use Rattle.std.proofs.Common.{sym, ap, subst, ◌∙◌}
 use Rattle.rules.specs.declared.Row.{Row}
 use Rattle.rules.specs.declared.Map.{Map}
 use Rattle.rules.specs.declared.Book.{Book}
-use Rattle.rules.specs.declared.Planned.{Planned}
-use Rattle.rules.specs.declared.Booking.{Booking}
-use Rattle.rules.specs.declared.Cancelling.{Cancelling}
-use Rattle.rules.specs.declared.Paged.{Paged}
 use Rattle.rules.specs.Limits.{row_limit}
 use Rattle.rules.specs.Map.{GoodMap, map_yard}
 use Rattle.rules.specs.Rows.{Key, first_key, bit}
@@ -18,7 +14,7 @@ use Rattle.rules.specs.Chosen.{Chosen}
 use Rattle.rules.specs.Bytes.{records, written}
 use Rattle.rules.specs.Gate.{Unless, Papers, Checked}
 use Rattle.rules.specs.GateLaws.{both, checked_both}
-use Rattle.rules.specs.Answer.{Planning, PlanRefused, PlanAnswers, BookingIs, BookRefused, BookDone, BookIs, CancellingIs, CancelIs, PagingIs, PageAnswers, planned_number, planned_arrival, planned_count, paged_number, paged_count, paged_more}
+use Rattle.rules.specs.Answer.{Planned, Booking, Cancelling, Paged, Planning, PlanRefused, PlanAnswers, BookingIs, BookRefused, BookDone, BookIs, CancellingIs, CancelIs, PagingIs, PageAnswers, answer_number, planned_arrival, planned_count, paged_count, paged_more}
 use Rattle.rules.specs.Portal.{slice_papers, one_number, PortalPlan, PortalPage}
 use Rattle.lanes.specs.Yards.{yard_rules}
 use Rattle.lanes.specs.Chosen.{no_second}
@@ -108,10 +104,10 @@ pub no_second_portal_plan : (map book : List ℕ) (start dest s : ℕ) (was out 
     → PortalPlan map book start dest s was out r → PortalPlan map book start dest s was out' r' → (r ≡ r') × (out ≡ out')
 no_second_portal_plan map book start dest s was out out' r r' p q =
     let e = no_second_plan (slice_papers map book) (records was) (λ l. written l was) start dest s was out out' p.answer q.answer (λ M. (yard_rules M.rules).long) p.says q.says in
-    (p.result ∙ ap (λ a. one_number (planned_number a) (planned_arrival a) (planned_count a)) e.0 ∙ sym q.result, e.1)
+    (p.result ∙ ap (λ a. one_number (answer_number a) (planned_arrival a) (planned_count a)) e.0 ∙ sym q.result, e.1)
 
 pub no_second_portal_page : (map book : List ℕ) (size : ℕ) (k : Key) (was out out' : List ℕ) (r r' : ℕ)
     → PortalPage map book size k was out r → PortalPage map book size k was out' r' → (r ≡ r') × (out ≡ out')
 no_second_portal_page map book size k was out out' r r' p q =
     let e = no_second_page (slice_papers map book) (records was) (λ l. written l was) size k was out out' p.answer q.answer p.says q.says in
-    (p.result ∙ ap (λ a. one_number (paged_number a) (bit (paged_more a)) (paged_count a)) e.0 ∙ sym q.result, e.1)
+    (p.result ∙ ap (λ a. one_number (answer_number a) (bit (paged_more a)) (paged_count a)) e.0 ∙ sym q.result, e.1)

@@ -10,9 +10,6 @@ use Rattle.laws.specs.Lists.{mem_index, index_mem}
 use Rattle.rules.specs.declared.Row.{Row}
 use Rattle.rules.specs.declared.Map.{Map}
 use Rattle.rules.specs.declared.Book.{Book}
-use Rattle.rules.specs.declared.Booking.{Booking}
-use Rattle.rules.specs.declared.Cancelling.{Cancelling}
-use Rattle.rules.specs.declared.Paged.{Paged}
 use Rattle.rules.specs.Map.{GoodMap, map_yard}
 use Rattle.rules.specs.Rows.{Key, row_key, first_key, no_row, row_at, Less, lessb, Rising, keep, insert_all}
 use Rattle.rules.specs.Rows.Less.{by_place, by_entry, by_ticket}
@@ -22,7 +19,7 @@ use Rattle.rules.specs.Book.{GoodBook, rows_of, other_ticket}
 use Rattle.rules.specs.Bytes.{row_size}
 use Rattle.rules.specs.ByteLaws.{read_rows}
 use Rattle.rules.specs.GateLaws.{unless, checked}
-use Rattle.rules.specs.Answer.{rows_done, BookIs, BookingIs, BookDone, booked_rows, CancelIs, CancellingIs, CancelDone, PagingIs, PageDone, paged_more, paged_cursor}
+use Rattle.rules.specs.Answer.{Booking, Cancelling, Paged, rows_done, BookIs, BookingIs, BookDone, booked_rows, CancelIs, CancellingIs, CancelDone, PagingIs, PageDone, paged_more, paged_cursor}
 use Rattle.keeping.specs.OrderLaws.{less_trans, less_lessb, lessb_less, same_lessb}
 use Rattle.keeping.specs.Chains.{Chain, chain_below, chain_take, chain_append, chain_rest, chain_rising, after_chain, keys_once}
 use Rattle.keeping.specs.Chains.Chain.{none}

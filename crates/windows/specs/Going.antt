@@ -1,14 +1,18 @@
 -- All places, one after the other: the first p are done, their rows are the first a, their windows the first w. Holds at first, kept by a turn,
 -- gives the answer.
-use Rattle.std.specs.Prelude.{ℕ, ◌+◌, ◌-◌, ◌≤◌, ◌<◌, ◌≡◌, List, length, set}
+use Rattle.std.specs.Prelude.{ℕ, ◌+◌, ◌-◌, ◌≤◌, ◌<◌, ◌≡◌, List, length, set, Option, None, Some}
 use Rattle.std.proofs.Common.{sym, ap, subst, ◌∙◌, ⊎_elim, arith, length-set, below_more}
 use Rattle.laws.specs.Order.{lt_or_ge}
 use Rattle.laws.specs.Lists.{at}
+use Rattle.rules.specs.Limits.{day}
+use Rattle.rules.specs.Map.{Yard}
 use Rattle.rules.specs.Window.{Span}
-use Rattle.flat.specs.Flat.{place_of, rows_in, span_at, Grouped}
+use Rattle.lanes.specs.Nodes.{Windows}
+use Rattle.flat.specs.Flat.{Of, place_of, rows_in, span_at, Grouped}
 use Rattle.windows.specs.Sweep.{run_load, Sweepable, Sweep}
 use Rattle.windows.specs.Places.{Past, Given, AllWindows}
 use Rattle.windows.specs.Runs.{Run, past_run, run_order, load_at, load_rows, load_run}
+use Rattle.windows.specs.Turns.{of_some}
 use Rattle.windows.specs.Groups.{grouped_none, grouped_next}
 use Rattle.windows.specs.Listed.{Listed, listed_none, listed_next, sweep_same, listed_windows}
 
@@ -64,51 +68,51 @@ module _ {n count : ℕ} {C D K X : List ℕ} {p a w : ℕ} {S E P F : List ℕ}
       rows = run_order G run;
     }
 
-    module _ {r : ℕ} {S' E' P' : List ℕ}
+    module _ {r : Option ℕ} {S' E' P' : List ℕ}
         (A' : Sweep (run_load K X a b) (at C p) (at D p) p w (b - a) (span_at P S E) r S' E' P')
       where
         A : Sweep (load_at K X count p) (at C p) (at D p) p w (b - a) (span_at P S E) r S' E' P'
         A = sweep_same (λ t. sym (load_run X run t)) A'
 
-        pub going_over : r ≡ 1281 → AllWindows n count C D K X 1281 S' E' P' F
+        pub going_over : r ≡ None → AllWindows n count C D K X None S' E' P' F
         going_over e = let z = A.overfull e in record {
-          bound = omega arith;
+          bound = λ w q. cc;
           overfull = λ _. (p, z.0, h, omega (arith, z.1, load_rows K X count p z.0));
-          fits = λ q. absurd (omega arith);
-          windows = λ q. absurd (omega arith);
-          by_place = λ q. absurd (omega arith);
-          ends_in_day = λ q. absurd (omega arith);
+          fits = λ w q. cc;
+          windows = λ w q. cc;
+          by_place = λ w q. cc;
+          ends_in_day = λ w q. cc;
           len_s = A.len_s;
           len_e = A.len_e;
           len_p = A.len_p;
           len_f = I.len_f;
         }
 
-        pub going_next : r < 1281 → Going n count C D K X (p + 1) b r S' E' P' (set F (p + 1) r)
-        going_next k = record {
+        pub going_next : (v : ℕ) → r ≡ Some v → Going n count C D K X (p + 1) b v S' E' P' (set F (p + 1) v)
+        going_next v k = let s = A.swept v k in record {
           len_s = A.len_s;
           len_e = A.len_e;
           len_p = A.len_p;
-          len_f = length-set F (p + 1) r ∙ I.len_f;
+          len_f = length-set F (p + 1) v ∙ I.len_f;
           to = omega arith;
           within = B.to;
-          few = omega (arith, A.few k, I.few, B.from);
+          few = omega (arith, A.few v k, I.few, B.from);
           under = λ i l. ⊎_elim (λ (q : i < a). omega (arith, I.under i q)) (λ (q : a ≤ i). omega (arith, B.same i q l)) (lt_or_ge i a);
           ahead = λ i l m. omega (arith, run.beyond i l m);
-          windows = grouped_next I.windows (λ i l. ap (λ (v : Span). v.place) ((A.swept k).kept i l)) (λ i x y. (A.swept k).placed i x y) (A.swept k).some (omega (arith, I.len_f, G.places));
-          fits = below_more (λ q. (t : ℕ) → load_at K X count q t ≤ at C q) p I.fits (A.fits k);
-          listed = listed_next I.listed (A.swept k) (G.dur_from p h);
+          windows = grouped_next I.windows (λ i l. ap (λ (v : Span). v.place) (s.kept i l)) (λ i x y. s.placed i x y) s.some (omega (arith, I.len_f, G.places));
+          fits = below_more (λ q. (t : ℕ) → load_at K X count q t ≤ at C q) p I.fits (A.fits v k);
+          listed = listed_next I.listed s (G.dur_from p h);
         }
 
 -- no place is left
-pub going_done : {n count : ℕ} {C D K X : List ℕ} {p a w : ℕ} {S E P F : List ℕ} → Given n count C D K X → n ≤ p → Going n count C D K X p a w S E P F → AllWindows n count C D K X w S E P F
+pub going_done : {n count : ℕ} {C D K X : List ℕ} {p a w : ℕ} {S E P F : List ℕ} → Given n count C D K X → n ≤ p → Going n count C D K X p a w S E P F → AllWindows n count C D K X (Some w) S E P F
 going_done {n} {count} {C} {D} {K} {X} {p} {a} {w} {S} {E} {P} {F} G l J = record {
-  bound = omega (arith, few);
-  overfull = λ e. absurd (omega (arith, few));
-  fits = λ _ q t h. omega (arith, I.fits q h t, load_rows K X count q t);
-  windows = λ _ Y O. listed_windows Y (rows_in K X count) I.listed O (λ q t. load_rows K X count q t);
-  by_place = λ _. I.windows;
-  ends_in_day = λ _ i h. (I.listed.are i h).in_day;
+  bound = of_some (λ v. v ≤ 1280) (omega (arith, I.few, I.within, G.rows, G.places));
+  overfull = λ e. cc;
+  fits = λ _ _ q t h. omega (arith, I.fits q h t, load_rows K X count q t);
+  windows = of_some (λ v. (Y : Yard) → Of Y C D n → Windows Y (rows_in K X count) v (span_at P S E)) (λ Y O. listed_windows Y (rows_in K X count) I.listed O (λ q t. load_rows K X count q t));
+  by_place = of_some (Grouped (at P) F n) I.windows;
+  ends_in_day = of_some (λ v. (i : ℕ) → i < v → at E i ≤ day) (λ i h. (I.listed.are i h).in_day);
   len_s = I.len_s;
   len_e = I.len_e;
   len_p = I.len_p;
@@ -117,6 +121,3 @@ going_done {n} {count} {C} {D} {K} {X} {p} {a} {w} {S} {E} {P} {F} G l J = recor
   where
     I : Going n count C D K X n a w S E P F
     I = subst (λ q. Going n count C D K X q a w S E P F) {x = p} (omega (arith, J.to)) J
-
-    few : w ≤ 1280
-    few = omega (arith, I.few, I.within, G.rows, G.places)

@@ -1,6 +1,6 @@
 -- The windows of the first n places, listed place by place: the windows of the next place come after them, and those of all places are the nodes
 -- of the search.
-use Rattle.std.specs.Prelude.{ℕ, ◌+◌, ◌≤◌, ◌<◌, ◌≡◌, List}
+use Rattle.std.specs.Prelude.{ℕ, ◌+◌, ◌≤◌, ◌<◌, ◌≡◌, List, Option}
 use Rattle.std.proofs.Common.{sym, ap, subst, ◌∙◌, ⊎_elim, arith}
 use Rattle.laws.specs.Order.{lt_or_ge}
 use Rattle.laws.specs.Lists.{at}
@@ -90,16 +90,16 @@ stretch_same {b = b} e v = record {
   right = λ h. omega (arith, e b, v.right h);
 }
 
-pub sweep_same : {L M : ℕ → ℕ} {c d p from n : ℕ} {was : ℕ → Span} {r : ℕ} {S E P : List ℕ} → ((t : ℕ) → L t ≡ M t) → Sweep L c d p from n was r S E P → Sweep M c d p from n was r S E P
+pub sweep_same : {L M : ℕ → ℕ} {c d p from n : ℕ} {was : ℕ → Span} {r : Option ℕ} {S E P : List ℕ} → ((t : ℕ) → L t ≡ M t) → Sweep L c d p from n was r S E P → Sweep M c d p from n was r S E P
 sweep_same e A = record {
   len_s = A.len_s;
   len_e = A.len_e;
   len_p = A.len_p;
   bound = A.bound;
   overfull = λ q. let z = A.overfull q in (z.0, omega (arith, z.1, e z.0));
-  fits = λ h t. omega (arith, A.fits h t, e t);
+  fits = λ w h t. omega (arith, A.fits w h t, e t);
   few = A.few;
-  swept = λ h. let s = A.swept h in record {
+  swept = λ w h. let s = A.swept w h in record {
     some = s.some;
     placed = s.placed;
     are = λ i a b. stretch_same e (s.are i a b);

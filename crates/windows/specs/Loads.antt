@@ -1,13 +1,13 @@
 -- The load so far, and the kept exits: from the last entry on, the load is the number of kept exits above the second.
 use Rattle.std.specs.Prelude.{ℕ, zero, suc, ◌+◌, ◌≤◌, ◌<◌, ◌≡◌, refl, List, length, set, replicate, ltb}
 use Rattle.std.proofs.Math.Path.{ap}
-use Rattle.std.proofs.Common.{⊎_elim, arith, add-one, get_or-set_same, get_or-set_other, le-leb, lt-ltb, le-ltb, below_more}
+use Rattle.std.proofs.Common.{⊎_elim, arith, add-one, get_or-set_same, get_or-set_other, le-leb, lt-ltb, le-ltb}
 use Rattle.std.proofs.lemmas.Bool.{lt-leb}
 use Rattle.laws.specs.Order.{lt_or_ge}
 use Rattle.laws.specs.Lists.{at}
 use Rattle.rules.specs.Rows.{bit}
 use Rattle.windows.specs.Sums.{sum, sum_zero, sum_next, sum_more, sum_none, sum_all, sum_le, sum_lt, sum_change}
-use Rattle.windows.specs.Sweep.{covered, load_to, InOrder, LeastAt}
+use Rattle.windows.specs.Sweep.{covered, load_to, InOrder}
 
 -- 1 where second t is before exit x
 unfoldable pub over : ℕ → ℕ → ℕ
@@ -90,17 +90,6 @@ pub last_le : {en ex : ℕ → ℕ} {m : ℕ} → InOrder en ex m → (n : ℕ) 
 unfolding last_entry
 last_le R zero h = omega arith
 last_le R (suc n) h = R.sorted n h
-
--- ---- where the least kept exit is
-
-pub least_first : {top : List ℕ} → LeastAt top 1 0
-least_first {top} = record { within = omega arith; least = λ k h. let e : k ≡ 0 = omega arith in rw e (omega arith) }
-
-pub least_take : {top : List ℕ} {k j : ℕ} → LeastAt top k j → at top k < at top j → LeastAt top (k + 1) k
-least_take {top} {k} {j} A h = record { within = omega arith; least = below_more (λ i. at top k ≤ at top i) k (λ i l. omega (arith, A.least i l)) (omega arith) }
-
-pub least_keep : {top : List ℕ} {k j : ℕ} → LeastAt top k j → at top j ≤ at top k → LeastAt top (k + 1) j
-least_keep {top} {k} {j} A h = record { within = omega (arith, A.within); least = below_more (λ i. at top j ≤ at top i) k A.least h }
 
 pub zeros : (n k : ℕ) → at (replicate n 0) k ≡ 0
 zeros zero k = refl

@@ -1,5 +1,5 @@
 -- What finding the windows of all places asks and answers.
-use Rattle.std.specs.Prelude.{ℕ, ◌≤◌, ◌<◌, ◌≡◌, List, length}
+use Rattle.std.specs.Prelude.{ℕ, ◌≤◌, ◌<◌, ◌≡◌, List, length, Option, None, Some}
 use Rattle.laws.specs.Lists.{at}
 use Rattle.rules.specs.Limits.{day}
 use Rattle.rules.specs.Map.{Yard}
@@ -27,14 +27,14 @@ pub record Given (n count : ℕ) (C D K X : List ℕ) : Type 0 where
   pub lasts : (i : ℕ) → i < count → entry_of (at K i) < exit_of (at X i)
   pub in_day : (i : ℕ) → i < count → exit_of (at X i) ≤ day
 
--- r is the number of windows, 1,281 exactly where a place is overfull; S, E and P are each window's start, end and place, F each place's first window
-pub record AllWindows (n count : ℕ) (C D K X : List ℕ) (r : ℕ) (S E P F : List ℕ) : Type 0 where
-  pub bound : r ≤ 1281
-  pub overfull : r ≡ 1281 → (p : ℕ) × (t : ℕ) × (p < n) × (at C p < load (rows_in K X count) p t)
-  pub fits : r < 1281 → (p t : ℕ) → p < n → load (rows_in K X count) p t ≤ at C p
-  pub windows : r < 1281 → (Y : Yard) → Of Y C D n → Windows Y (rows_in K X count) r (span_at P S E)
-  pub by_place : r < 1281 → Grouped (at P) F n r
-  pub ends_in_day : r < 1281 → (i : ℕ) → i < r → at E i ≤ day
+-- r is the number of windows, None exactly where a place is overfull; S, E and P are each window's start, end and place, F each place's first window
+pub record AllWindows (n count : ℕ) (C D K X : List ℕ) (r : Option ℕ) (S E P F : List ℕ) : Type 0 where
+  pub bound : (w : ℕ) → r ≡ Some w → w ≤ 1280
+  pub overfull : r ≡ None → (p : ℕ) × (t : ℕ) × (p < n) × (at C p < load (rows_in K X count) p t)
+  pub fits : (w : ℕ) → r ≡ Some w → (p t : ℕ) → p < n → load (rows_in K X count) p t ≤ at C p
+  pub windows : (w : ℕ) → r ≡ Some w → (Y : Yard) → Of Y C D n → Windows Y (rows_in K X count) w (span_at P S E)
+  pub by_place : (w : ℕ) → r ≡ Some w → Grouped (at P) F n w
+  pub ends_in_day : (w : ℕ) → r ≡ Some w → (i : ℕ) → i < w → at E i ≤ day
   pub len_s : length S ≡ 1280
   pub len_e : length E ≡ 1280
   pub len_p : length P ≡ 1280

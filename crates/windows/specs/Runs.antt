@@ -18,22 +18,6 @@ pub record Passing (K : List ℕ) (count a p i : ℕ) : Type 0 where
   pub to : i ≤ count
   pub same : (k : ℕ) → a ≤ k → k < i → place_of (at K k) ≡ p
 
-pub passing_none : {K : List ℕ} {count a p : ℕ} → a ≤ count → Passing K count a p a
-passing_none h = record { from = omega arith; to = h; same = λ k x y. absurd (omega arith) }
-
-pub passing_next : {K : List ℕ} {count a p i : ℕ} → Passing K count a p i → i < count → place_of (at K i) ≡ p → Passing K count a p (i + 1)
-passing_next {K} {count} {a} {p} {i} I h e = record {
-  from = omega (arith, I.from);
-  to = omega arith;
-  same = λ k x y. ⊎_elim (λ (q : k < i). I.same k x q) (λ (q : i ≤ k). let z : k ≡ i = omega arith in ap (λ j. place_of (at K j)) z ∙ e) (lt_or_ge k i);
-}
-
-pub past_here : {K : List ℕ} {count a p i : ℕ} → Passing K count a p i → (place_of (at K i) ≡ p → ⊥) → Past K count a p i
-past_here I n = record { from = I.from; to = I.to; same = I.same; other = λ _. n }
-
-pub past_end : {K : List ℕ} {count a p i : ℕ} → Passing K count a p i → count ≤ i → Past K count a p i
-past_end I h = record { from = I.from; to = I.to; same = I.same; other = λ l. absurd (omega arith) }
-
 -- ---- the run of a place
 
 -- the rows of p are a .. b - 1

@@ -1,6 +1,6 @@
 -- What the sweep of one place asks and answers: its load as a function of the second, its free windows as the longest stretches where that load
 -- is below capacity, and the windows written.
-use Rattle.std.specs.Prelude.{ℕ, suc, ◌+◌, ◌-◌, ◌≤◌, ◌<◌, ◌≡◌, ◌&&◌, List, length, leb, ltb}
+use Rattle.std.specs.Prelude.{ℕ, suc, ◌+◌, ◌-◌, ◌≤◌, ◌<◌, ◌≡◌, ◌&&◌, List, length, leb, ltb, Option, None, Some}
 use Rattle.laws.specs.Lists.{at}
 use Rattle.rules.specs.Limits.{day}
 use Rattle.rules.specs.Rows.{bit}
@@ -71,16 +71,16 @@ pub record Swept (L : ℕ → ℕ) (c d p from : ℕ) (was : ℕ → Span) (w : 
   pub rise : (i j : ℕ) → from ≤ i → i < j → j < w → (win i).to < (win j).from
   pub kept : (i : ℕ) → i < from → win i ≡ was i
 
--- what the sweep answers: 1,281 exactly where some second is overfull, else the number after the last window
-pub record Sweep (L : ℕ → ℕ) (c d p from n : ℕ) (was : ℕ → Span) (r : ℕ) (S E P : List ℕ) : Type 0 where
+-- what the sweep answers: None exactly where some second is overfull, else the number after the last window
+pub record Sweep (L : ℕ → ℕ) (c d p from n : ℕ) (was : ℕ → Span) (r : Option ℕ) (S E P : List ℕ) : Type 0 where
   pub len_s : length S ≡ 1280
   pub len_e : length E ≡ 1280
   pub len_p : length P ≡ 1280
-  pub bound : r ≤ 1281
-  pub overfull : r ≡ 1281 → (t : ℕ) × (c < L t)
-  pub fits : r < 1281 → (t : ℕ) → L t ≤ c
-  pub few : r < 1281 → r ≤ from + n + 1
-  pub swept : r < 1281 → Swept L c d p from was r (span_at P S E)
+  pub bound : (w : ℕ) → r ≡ Some w → w ≤ 1280
+  pub overfull : r ≡ None → (t : ℕ) × (c < L t)
+  pub fits : (w : ℕ) → r ≡ Some w → (t : ℕ) → L t ≤ c
+  pub few : (w : ℕ) → r ≡ Some w → w ≤ from + n + 1
+  pub swept : (w : ℕ) → r ≡ Some w → Swept L c d p from was w (span_at P S E)
 
 -- the first c of the kept exits have their least at r
 pub record LeastAt (top : List ℕ) (c r : ℕ) : Type 0 where

@@ -1,13 +1,13 @@
 -- The sweep's state after n rows: from the last entry on, the load is the number of kept exits above the second, so the place is full exactly while
 -- the least of them lies ahead. Holds at first, kept by a turn in each of its three cases, gives the answer.
-use Rattle.std.specs.Prelude.{ℕ, ◌+◌, ◌≤◌, ◌<◌, ◌≡◌, List, length, set}
+use Rattle.std.specs.Prelude.{ℕ, ◌+◌, ◌≤◌, ◌<◌, ◌≡◌, List, length, set, None, Some}
 use Rattle.std.proofs.Common.{sym, subst, ◌∙◌, ⊎_elim, arith, length-set, get_or-set_same}
 use Rattle.laws.specs.Order.{lt_or_ge}
 use Rattle.laws.specs.Lists.{at}
 use Rattle.rules.specs.Limits.{day}
 use Rattle.rules.specs.Window.{Span}
 use Rattle.flat.specs.Flat.{span_at}
-use Rattle.windows.specs.Sweep.{load_to, InOrder, LeastAt, Sweep}
+use Rattle.windows.specs.Sweep.{load_to, InOrder, LeastAt, Swept, Sweep}
 use Rattle.windows.specs.Loads.{over_yes, over_no, covered_from, covered_before, above, above_le, above_none, above_all, above_some, above_set, load_none, load_next, load_more, last_entry, last_none, last_next, last_le}
 use Rattle.windows.specs.Written.{Written, put_arrays, written_none, written_room, written_short, written_more, swept_short, swept_more}
 
@@ -121,32 +121,32 @@ module _
 
 -- the answers
 
-pub answer_over : {L : ℕ → ℕ} {c d p from n : ℕ} {was : ℕ → Span} {S E P : List ℕ} → length S ≡ 1280 → length E ≡ 1280 → length P ≡ 1280 → (t : ℕ) × (c < L t) → Sweep L c d p from n was 1281 S E P
-answer_over lS lE lP z = record { len_s = lS; len_e = lE; len_p = lP; bound = omega arith; overfull = λ _. z; fits = λ q. absurd (omega arith); few = λ q. absurd (omega arith); swept = λ q. absurd (omega arith) }
+pub answer_over : {L : ℕ → ℕ} {c d p from n : ℕ} {was : ℕ → Span} {S E P : List ℕ} → length S ≡ 1280 → length E ≡ 1280 → length P ≡ 1280 → (t : ℕ) × (c < L t) → Sweep L c d p from n was None S E P
+answer_over lS lE lP z = record { len_s = lS; len_e = lE; len_p = lP; bound = λ w e. cc; overfull = λ _. z; fits = λ w e. cc; few = λ w e. cc; swept = λ w e. cc }
+
+-- what is true of the number that is returned
+pub of_some : (Q : ℕ → Type 0) {w : ℕ} → Q w → (v : ℕ) → Some w ≡ Some v → Q v
+of_some Q {w} q v e = let z : w ≡ v = cc in subst Q z q
 
 -- all n rows are swept
 module _ {en ex : ℕ → ℕ} {c d p from n i : ℕ} {was : ℕ → Span} {top : List ℕ} {low free w : ℕ} {S E P : List ℕ}
     (dp : 1 ≤ d) (m : from + n < 1280) (e : i ≡ n) (I : State en ex c d p from was i top low free w S E P) where
-  pub answer_short : day < free + d → Sweep (load_to en ex n) c d p from n was w S E P
-  answer_short k = subst (λ j. Sweep (load_to en ex j) c d p from j was w S E P) e (record {
-    len_s = I.len_s;
-    len_e = I.len_e;
-    len_p = I.len_p;
-    bound = omega (arith, I.few);
-    overfull = λ q. absurd (omega (arith, I.few));
-    fits = λ _. I.fits;
-    few = λ _. omega (arith, I.few);
-    swept = λ _. swept_short I.written dp k;
+  answer : {w' : ℕ} {S' E' P' : List ℕ} → length S' ≡ 1280 → length E' ≡ 1280 → length P' ≡ 1280 → w' ≤ w + 1 → Swept (load_to en ex i) c d p from was w' (span_at P' S' E')
+      → Sweep (load_to en ex n) c d p from n was (Some w') S' E' P'
+  answer {w'} {S'} {E'} {P'} lS lE lP f s = subst (λ j. Sweep (load_to en ex j) c d p from j was (Some w') S' E' P') e (record {
+    len_s = lS;
+    len_e = lE;
+    len_p = lP;
+    bound = of_some (λ v. v ≤ 1280) (omega (arith, I.few));
+    overfull = λ q. cc;
+    fits = λ _ _. I.fits;
+    few = of_some (λ v. v ≤ from + i + 1) (omega (arith, I.few));
+    swept = of_some (λ v. Swept (load_to en ex i) c d p from was v (span_at P' S' E')) s;
   })
 
-  pub answer_more : free + d ≤ day → Sweep (load_to en ex n) c d p from n was (w + 1) (set S w free) (set E w day) (set P w p)
-  answer_more k = subst (λ j. Sweep (load_to en ex j) c d p from j was (w + 1) (set S w free) (set E w day) (set P w p)) e (record {
-    len_s = length-set S w free ∙ I.len_s;
-    len_e = length-set E w day ∙ I.len_e;
-    len_p = length-set P w p ∙ I.len_p;
-    bound = omega (arith, I.few);
-    overfull = λ q. absurd (omega (arith, I.few));
-    fits = λ _. I.fits;
-    few = λ _. omega (arith, I.few);
-    swept = λ _. swept_more I.written dp k (put_arrays S E P w p free day (omega (arith, I.few, I.len_s)) (omega (arith, I.few, I.len_e)) (omega (arith, I.few, I.len_p)));
-  })
+  pub answer_short : day < free + d → Sweep (load_to en ex n) c d p from n was (Some w) S E P
+  answer_short k = answer I.len_s I.len_e I.len_p (omega arith) (swept_short I.written dp k)
+
+  pub answer_more : free + d ≤ day → Sweep (load_to en ex n) c d p from n was (Some (w + 1)) (set S w free) (set E w day) (set P w p)
+  answer_more k = answer (length-set S w free ∙ I.len_s) (length-set E w day ∙ I.len_e) (length-set P w p ∙ I.len_p) (omega arith)
+      (swept_more I.written dp k (put_arrays S E P w p free day (omega (arith, I.few, I.len_s)) (omega (arith, I.few, I.len_e)) (omega (arith, I.few, I.len_p))))

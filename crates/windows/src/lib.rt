@@ -3,21 +3,11 @@
 
 ghost use Rattle.std.specs.Prelude.{◌≡◌, ◌-◌, ◌≤◌, length};
 ghost use Rattle.rules.specs.Limits.{capacity_limit, row_limit};
-ghost use Rattle.flat.specs.Flat.{place_of, entry_of, span_at};
+ghost use Rattle.flat.specs.Flat.{entry_of, span_at};
 ghost use Rattle.windows.specs.Sweep.{run_load, Sweepable, Sweep, LeastAt};
 ghost use Rattle.windows.specs.Places.{Past, Given, AllWindows};
 
-use rules::{Map, Trip};
-
-// No number of windows: a place is overfull.
-pub const NONE: usize = Trip::STAYS + 1;
-
-// a key is place * 2^48 + entry * 2^24 + ticket
-fn place_of(k: u64) -> usize
-    ensures { result ≡ place_of k }
-{
-    (k / flat::PLACE) as usize
-}
+use rules::Map;
 
 fn entry_of(k: u64) -> u32
     ensures { result ≡ entry_of k }
@@ -32,17 +22,15 @@ fn least_at(top: &[u32; 16], c: usize) -> usize
     ensures { LeastAt top.now c result }
 {
     let mut j: usize = 0;
-    let mut k: usize = 1;
-    while k < c {
+    for k in 1..c {
         if top[k] < top[j] {
             j = k;
         }
-        k += 1;
     }
     j
 }
 
-// The windows of place p, whose rows are a .. b, written from number `from` on: the number after the last, NONE where the place is overfull.
+// The windows of place p, whose rows are a .. b, written from number `from` on: the number after the last, None where the place is overfull.
 // `top` keeps the exits of the rows inside; there is room from second `free` on.
 fn sweep(
     key: &[u64; 1024],
@@ -56,25 +44,23 @@ fn sweep(
     start: &mut [u32; 1280],
     end: &mut [u32; 1280],
     place: &mut [u8; 1280],
-) -> usize
+) -> Option<usize>
     requires sweepable { Sweepable key.now tail.now a b c d from }
     requires start_len { length start.old ≡ 1280 }
     requires end_len { length end.old ≡ 1280 }
     requires place_len { length place.old ≡ 1280 }
     ensures { Sweep (run_load key.now tail.now a b) c d p from (b - a) (span_at place.old start.old end.old) result start.new end.new place.new }
 {
-    let n = b - a;
     let mut top = [0u32; 16];
     let mut low: usize = 0;
     let mut w = from;
     let mut free: u32 = 0;
-    let mut i: usize = 0;
-    while i < n {
-        let t = entry_of(key[a + i]);
+    for i in a..b {
+        let t = entry_of(key[i]);
         if t < top[low] {
-            return NONE;
+            return None;
         }
-        top[low] = flat::exit_of(tail[a + i]);
+        top[low] = flat::exit_of(tail[i]);
         low = least_at(&top, c);
         let u = top[low];
         if t < u {
@@ -86,7 +72,6 @@ fn sweep(
             }
             free = u;
         }
-        i += 1;
     }
     if free + d <= Map::DAY {
         start[w] = free;
@@ -94,7 +79,7 @@ fn sweep(
         place[w] = p;
         w += 1;
     }
-    w
+    Some(w)
 }
 
 // the first row from a on that is not of place p, count where there is none
@@ -103,17 +88,16 @@ fn past(key: &[u64; 1024], count: usize, a: usize, p: usize) -> usize
     requires count_le_row_limit { count ≤ row_limit }
     ensures { Past key.now count a p result }
 {
-    let mut i = a;
-    while i < count {
-        if place_of(key[i]) != p {
+    // any u64 is a key here, so that no bound is asked for as by flat::place_of
+    for i in a..count {
+        if (key[i] / flat::PLACE) as usize != p {
             return i;
         }
-        i += 1;
     }
-    i
+    count
 }
 
-// The free windows of the places 0 .. n, place after place, and the first window of each: the number of windows, NONE where a place is overfull.
+// The free windows of the places 0 .. n, place after place, and the first window of each: the number of windows, None where a place is overfull.
 pub fn all_windows(
     n: usize,
     count: usize,
@@ -125,7 +109,7 @@ pub fn all_windows(
     end: &mut [u32; 1280],
     place: &mut [u8; 1280],
     first: &mut [u16; 257],
-) -> usize
+) -> Option<usize>
     requires given { Given n count cap.now dur.now key.now tail.now }
     requires start_len { length start.old ≡ 1280 }
     requires end_len { length end.old ≡ 1280 }
@@ -136,19 +120,13 @@ pub fn all_windows(
     first[0] = 0;
     let mut a: usize = 0;
     let mut w: usize = 0;
-    let mut p: usize = 0;
-    while p < n {
+    for p in 0..n {
         let b = past(key, count, a, p);
         let c = cap[p] as usize;
         let d = dur[p];
-        let r = sweep(key, tail, a, b, c, d, p as u8, w, start, end, place);
-        if r == NONE {
-            return NONE;
-        }
+        w = sweep(key, tail, a, b, c, d, p as u8, w, start, end, place)?;
         a = b;
-        w = r;
-        p += 1;
-        first[p] = r as u16;
+        first[p + 1] = w as u16;
     }
-    w
+    Some(w)
 }

@@ -38,13 +38,6 @@ rows_table s a (suc n) =
     let t = rows_table s (a + row_size) n ∙ tabulate_same n (λ i. row_in s (a + row_size + row_size * i)) (λ i. row_in s (a + row_size * suc i)) (λ i k. ap (row_in s) (e i)) in
     λ i. row_in s (h i) ∷ t i
 
--- one more number in an array that is read
-read_more : (l : List ℕ) (j v : ℕ) (f : ℕ → ℕ) → j < length l → ((i : ℕ) → i < j → at l i ≡ f i) → v ≡ f j → (i : ℕ) → i < j + 1 → at (set l j v) i ≡ f i
-read_more l j v f h old e i k =
-    ⊎_elim (λ (q : i ≡ j). ap (at (set l j v)) q ∙ get_or-set_same l j v 0 h ∙ e ∙ ap f (sym q))
-    (λ (q : i ≡ j → ⊥). get_or-set_other l j i v 0 q ∙ old i (omega arith))
-    (eq_or_ne i j)
-
 -- ---- places
 
 pub record PlacesRead (s : List ℕ) (j : ℕ) (C D : List ℕ) : Type 0 where
@@ -52,18 +45,6 @@ pub record PlacesRead (s : List ℕ) (j : ℕ) (C D : List ℕ) : Type 0 where
   pub durs : (i : ℕ) → i < j → at D i ≡ num2 s (4 + place_size * i + 1)
   pub len_cap : length C ≡ 256
   pub len_dur : length D ≡ 256
-
-pub no_places : (s C D : List ℕ) → length C ≡ 256 → length D ≡ 256 → PlacesRead s 0 C D
-no_places s C D a b = record { caps = λ i h. absurd (omega arith); durs = λ i h. absurd (omega arith); len_cap = a; len_dur = b }
-
-pub place_read : {s : List ℕ} {j : ℕ} {C D : List ℕ} (c d : ℕ) → PlacesRead s j C D → j < 256 → c ≡ byte_at s (4 + place_size * j) → d ≡ num2 s (4 + place_size * j + 1)
-    → PlacesRead s (j + 1) (set C j c) (set D j d)
-place_read {s} {j} {C} {D} c d P h p q = record {
-  caps = read_more C j c (λ i. byte_at s (4 + place_size * i)) (omega (arith, P.len_cap)) P.caps p;
-  durs = read_more D j d (λ i. num2 s (4 + place_size * i + 1)) (omega (arith, P.len_dur)) P.durs q;
-  len_cap = length-set C j c ∙ P.len_cap;
-  len_dur = length-set D j d ∙ P.len_dur;
-}
 
 -- the places of the slice, and the arrays' lengths
 pub record PlacesOf (s : List ℕ) (n : ℕ) (C D : List ℕ) : Type 0 where
@@ -86,18 +67,6 @@ pub record LinksRead (s : List ℕ) (base j : ℕ) (F T : List ℕ) : Type 0 whe
   pub tos : (i : ℕ) → i < j → at T i ≡ byte_at s (base + link_size * i + 1)
   pub len_from : length F ≡ 1024
   pub len_to : length T ≡ 1024
-
-pub no_links : (s : List ℕ) (base : ℕ) (F T : List ℕ) → length F ≡ 1024 → length T ≡ 1024 → LinksRead s base 0 F T
-no_links s base F T a b = record { froms = λ i h. absurd (omega arith); tos = λ i h. absurd (omega arith); len_from = a; len_to = b }
-
-pub link_read : {s : List ℕ} {base j : ℕ} {F T : List ℕ} (f t : ℕ) → LinksRead s base j F T → j < 1024 → f ≡ byte_at s (base + link_size * j) → t ≡ byte_at s (base + link_size * j + 1)
-    → LinksRead s base (j + 1) (set F j f) (set T j t)
-link_read {s} {base} {j} {F} {T} f t P h p q = record {
-  froms = read_more F j f (λ i. byte_at s (base + link_size * i)) (omega (arith, P.len_from)) P.froms p;
-  tos = read_more T j t (λ i. byte_at s (base + link_size * i + 1)) (omega (arith, P.len_to)) P.tos q;
-  len_from = length-set F j f ∙ P.len_from;
-  len_to = length-set T j t ∙ P.len_to;
-}
 
 -- the links of the slice, and the arrays' lengths
 pub record LinksOf (s : List ℕ) (base k : ℕ) (F T : List ℕ) : Type 0 where

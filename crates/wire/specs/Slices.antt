@@ -1,7 +1,7 @@
 -- A map slice and a book slice are good exactly when their shape is, the length that the counts give and counts within the limits, and what the arrays
 -- read from them hold keeps the rules. The limits on the counts are among the rules, since the lists read have as many entries as the counts say.
-use Rattle.std.specs.Prelude.{ℕ, ◌+◌, ◌*◌, ◌≤◌, ◌≡◌, false, List, length, eqb}
-use Rattle.std.proofs.Common.{ap, ap₂, ◌∙◌, arith, eqb-true, eq-eqb}
+use Rattle.std.specs.Prelude.{ℕ, ◌+◌, ◌*◌, ◌≤◌, ◌≡◌, false, List, length}
+use Rattle.std.proofs.Common.{ap, ap₂, ◌∙◌, arith}
 use Rattle.laws.specs.Lists.{length_tabulate}
 use Rattle.laws.specs.Tests.{Decides}
 use Rattle.rules.specs.Limits.{place_limit, link_limit, row_limit}
@@ -22,14 +22,6 @@ pub record MapShape (s : List ℕ) : Type 0 where
   pub fits : length s ≡ 4 + place_size * num2 s 0 + link_size * num2 s 2
   pub few : num2 s 0 ≤ place_limit
   pub few_links : num2 s 2 ≤ link_limit
-
--- where the counts n and k are within the limits, the length decides
-pub map_length : (s : List ℕ) (n k : ℕ) → n ≡ num2 s 0 → k ≡ num2 s 2 → 4 ≤ length s → n ≤ place_limit → k ≤ link_limit
-    → Decides (eqb (length s) (4 + place_size * n + link_size * k)) (MapShape s)
-map_length s n k a b h p q = (
-  λ t. let e = eqb-true (length s) (4 + place_size * n + link_size * k) t in record { counts = h; fits = omega arith; few = omega arith; few_links = omega arith },
-  λ S. eq-eqb (length s) (4 + place_size * n + link_size * k) (omega arith),
-)
 
 places_count : (s : List ℕ) (a n : ℕ) → length (places_from s a n) ≡ n
 places_count s a n = ap length (places_table s a n) ∙ length_tabulate n (λ i. place_in s (a + place_size * i))
@@ -63,14 +55,6 @@ pub record BookShape (s : List ℕ) : Type 0 where
   pub counts : 5 ≤ length s
   pub fits : length s ≡ 5 + row_size * num2 s 3
   pub few : num2 s 3 ≤ row_limit
-
--- where the count n is within the limit, the length decides
-pub book_length : (s : List ℕ) (n : ℕ) → n ≡ num2 s 3 → 5 ≤ length s → n ≤ row_limit
-    → Decides (eqb (length s) (5 + row_size * n)) (BookShape s)
-book_length s n a h p = (
-  λ t. let e = eqb-true (length s) (5 + row_size * n) t in record { counts = h; fits = omega arith; few = omega arith },
-  λ S. eq-eqb (length s) (5 + row_size * n) (omega arith),
-)
 
 pub book_shape : {Y : Yard} {s : List ℕ} → CountedSlice Y s → BookShape s
 book_shape {Y} {s} C = record { counts = C.head; fits = C.fits; few = omega (arith, C.counts.few, rows_count s 5 (num2 s 3)) }

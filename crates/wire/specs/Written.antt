@@ -1,13 +1,12 @@
 -- Rows written as records of bytes, one behind the other. A row put over record j, where the j records before it hold the rows so far,
 -- makes one more row written: its bytes come behind theirs, and what lies after the record is as it was.
-use Rattle.std.specs.Prelude.{ℕ, ◌+◌, ◌-◌, ◌*◌, ◌%◌, ◌≤◌, ◌<◌, ◌≡◌, refl, List, [], ◌∷◌, ◌++◌, length, take, drop}
-use Rattle.std.proofs.Common.{sym, ap, ap₂, ◌∙◌, append_assoc, append-nil, arith, length-append, length-drop, take_at, drop_at, take_all, drop-drop}
+use Rattle.std.specs.Prelude.{ℕ, ◌+◌, ◌-◌, ◌*◌, ◌≤◌, ◌≡◌, refl, List, [], ◌∷◌, ◌++◌, length, take, drop}
+use Rattle.std.proofs.Common.{sym, ap, ◌∙◌, append_assoc, append-nil, arith, length-append, length-drop, take_at, drop_at, take_all, drop-drop}
 use Rattle.std.proofs.Math.Seq.{drop-length}
-use Rattle.std.proofs.lemmas.List.Edits.{sets-eq, sets}
 use borrow.Rule.Slice.PartMut.{put_mid}
 use Rattle.laws.specs.Lists.{at, tabulate, length_tabulate}
 use Rattle.rules.specs.declared.Row.{Row}
-use Rattle.rules.specs.Bytes.{bytes3, row_size, row_bytes, rows_bytes, written}
+use Rattle.rules.specs.Bytes.{row_size, row_bytes, rows_bytes, written}
 use Rattle.rules.specs.ByteLaws.{bytes_long}
 use Rattle.flat.specs.Flat.{row_of}
 use Rattle.wire.specs.Tables.{tabulate_snoc, rows_for}
@@ -43,18 +42,7 @@ written_next l first {r} {j} {was} {out} P n e =
     ∙ rw (front, end) (sym (append_assoc f (row_bytes r) (drop (row_size * length (l ++ (r ∷ []))) first)))
     ∙ ap (λ (t : List ℕ). t ++ drop (row_size * length (l ++ (r ∷ []))) first) (sym (bytes_append l (r ∷ [])))
 
--- ---- the stores of one row
-
--- a row's bytes, with its place and next as they are: each is a byte already
-abbrev pub field_bytes : ℕ → Row → ℕ → List ℕ
-field_bytes place r next = place ∷ (bytes3 r.entry ++ (bytes3 r.ticket ++ (bytes3 r.exit ++ (next ∷ []))))
-
--- stored over the front of a slice
-pub put_row_is : (r : Row) (s : List ℕ) → r.place < 256 → r.next < 256 → row_size ≤ length s → sets s 0 (field_bytes r.place r r.next) ≡ row_bytes r ++ drop row_size s
-put_row_is r s p n h =
-    let a : r.place ≡ r.place % 256 = omega arith in
-    let b : r.next ≡ r.next % 256 = omega arith in
-    ap₂ (λ (x y : ℕ). sets s 0 (field_bytes x r y)) a b ∙ sets-eq (row_bytes r) s 0 h
+-- ---- one row
 
 -- a row put over the front of the part that begins with record j
 pub put_at_is : (r : Row) (j : ℕ) (was p : List ℕ) → row_size * (j + 1) ≤ length was

@@ -19,17 +19,13 @@ pub fn put_row(r: Row, s: &mut [u8])
     requires { row_size ≤ length s.old }
     ensures { s.new ≡ row_bytes r ++ drop row_size s.old }
 {
-    s[0] = r.place;
-    s[1] = (r.entry / 65536 % 256) as u8;
-    s[2] = (r.entry / 256 % 256) as u8;
-    s[3] = (r.entry % 256) as u8;
-    s[4] = (r.ticket / 65536 % 256) as u8;
-    s[5] = (r.ticket / 256 % 256) as u8;
-    s[6] = (r.ticket % 256) as u8;
-    s[7] = (r.exit / 65536 % 256) as u8;
-    s[8] = (r.exit / 256 % 256) as u8;
-    s[9] = (r.exit % 256) as u8;
-    s[10] = r.next;
+    let [_, entry2, entry1, entry0] = r.entry.to_be_bytes();
+    let [_, ticket2, ticket1, ticket0] = r.ticket.to_be_bytes();
+    let [_, exit2, exit1, exit0] = r.exit.to_be_bytes();
+    let bytes = [
+        r.place, entry2, entry1, entry0, ticket2, ticket1, ticket0, exit2, exit1, exit0, r.next,
+    ];
+    s[..Row::BYTES].copy_from_slice(&bytes);
 }
 
 // A row over the j-th record of a list of records.
@@ -67,18 +63,9 @@ pub fn copy_rows(key: &[u64; 1024], tail: &[u32; 1024], from: usize, n: usize, o
     requires packed { Packed key.now }
     ensures { out.new ≡ written (rows_for key.now tail.now from n) out.old }
 {
-    let mut j: usize = 0;
-    while j < n {
-        let r = row_at(key, tail, from + j);
-        put_at(r, j, out);
-        j += 1;
+    for j in 0..n {
+        put_at(row_at(key, tail, from + j), j, out);
     }
-}
-
-fn wide(x: u8) -> u32
-    ensures { (result ≡ x) × (result < 256) }
-{
-    x as u32
 }
 
 // A number of two bytes, high byte first.
@@ -86,7 +73,7 @@ pub fn two(s: &[u8], at: usize) -> u32
     requires { at + 2 ≤ length s.now }
     ensures { (result ≡ num2 s.now at) × (result < 65536) }
 {
-    wide(s[at]) * 256 + wide(s[at + 1])
+    u32::from(u16::from_be_bytes([s[at], s[at + 1]]))
 }
 
 // A number of three bytes, high byte first.
@@ -94,7 +81,7 @@ pub fn three(s: &[u8], at: usize) -> u32
     requires { at + 3 ≤ length s.now }
     ensures { (result ≡ num3 s.now at) × (result < field_limit) }
 {
-    wide(s[at]) * 65536 + wide(s[at + 1]) * 256 + wide(s[at + 2])
+    u32::from_be_bytes([0, s[at], s[at + 1], s[at + 2]])
 }
 
 // The row that stands at an index of the bytes.
@@ -117,13 +104,7 @@ pub fn map_shape(s: &[u8]) -> bool
     }
     let n = two(s, 0) as usize;
     let k = two(s, 2) as usize;
-    if n > Map::PLACES {
-        return false;
-    }
-    if k > Map::LINKS {
-        return false;
-    }
-    s.len() == 4 + Place::BYTES * n + Link::BYTES * k
+    n <= Map::PLACES && k <= Map::LINKS && s.len() == 4 + Place::BYTES * n + Link::BYTES * k
 }
 
 // The n places of a map slice.
@@ -134,12 +115,10 @@ pub fn read_places(s: &[u8], n: usize, cap: &mut [u8; 256], dur: &mut [u32; 256]
     requires dur_len { length dur.old ≡ 256 }
     ensures { PlacesOf s.now n cap.new dur.new }
 {
-    let mut p: usize = 0;
-    while p < n {
+    for p in 0..n {
         let at = 4 + Place::BYTES * p;
         cap[p] = s[at];
         dur[p] = two(s, at + 1);
-        p += 1;
     }
 }
 
@@ -151,12 +130,10 @@ pub fn read_links(s: &[u8], base: usize, k: usize, from: &mut [u8; 1024], to: &m
     requires to_len { length to.old ≡ 1024 }
     ensures { LinksOf s.now base k from.new to.new }
 {
-    let mut j: usize = 0;
-    while j < k {
+    for j in 0..k {
         let at = base + Link::BYTES * j;
         from[j] = s[at];
         to[j] = s[at + 1];
-        j += 1;
     }
 }
 
@@ -168,10 +145,7 @@ pub fn book_shape(s: &[u8]) -> bool
         return false;
     }
     let n = two(s, 3) as usize;
-    if n > Book::ROWS {
-        return false;
-    }
-    s.len() == 5 + Row::BYTES * n
+    n <= Book::ROWS && s.len() == 5 + Row::BYTES * n
 }
 
 // The key of the row that stands at an index of the bytes.
@@ -179,9 +153,9 @@ fn read_key(s: &[u8], at: usize) -> u64
     requires { at + 7 ≤ length s.now }
     ensures { KeyRead s.now at result }
 {
-    let place = wide(s[at]) as u64;
-    let entry = three(s, at + 1) as u64;
-    let ticket = three(s, at + 4) as u64;
+    let place = u64::from(s[at]);
+    let entry = u64::from(three(s, at + 1));
+    let ticket = u64::from(three(s, at + 4));
     place * flat::PLACE + entry * flat::SECOND + ticket
 }
 
@@ -203,11 +177,9 @@ pub fn read_rows(s: &[u8], count: usize, key: &mut [u64; 1024], tail: &mut [u32;
     requires by_index { (i : ℕ) → at key.old i ≡ 0 }
     ensures { RowsOf s.now count key.new tail.new }
 {
-    let mut j: usize = 0;
-    while j < count {
+    for j in 0..count {
         let at = 5 + Row::BYTES * j;
         key[j] = read_key(s, at);
         tail[j] = read_tail(s, at);
-        j += 1;
     }
 }

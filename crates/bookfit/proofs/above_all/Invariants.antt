@@ -1,4 +1,4 @@
--- Each row filed that follows row i and is not numbered below it is from c on along the chain: a row passed is numbered below, and the look for the next
+-- Each row filed that follows row i and is not numbered below it is from `from` on along the chain: a row passed is numbered below, and the look for the next
 -- passes none that follows.
 use Prim.Native.Nat.{◌≤◌}
 use Rattle.laws.specs.Lists.{at}
@@ -6,8 +6,8 @@ use Rattle.flat.specs.Flat.{exit_of, next_value}
 use Rattle.bookfit.specs.Filed.{leave_slot_value, Ahead, NotBelow}
 use Rattle.bookfit.proofs.above_all.Given as goal
 
-abbrev pub invariant-loop-c : goal.invariant-loop-c
-invariant-loop-c l = (l.c ≤ 1024) × Ahead l.chain (NotBelow l.key l.tail l.rank l.i) (at l.head (leave_slot_value (next_value (at l.tail l.i)) (exit_of (at l.tail l.i)))) l.c
+abbrev pub invariant-loop-j : goal.invariant-loop-j
+invariant-loop-j l = (l.from ≤ 1024) × Ahead l.chain (NotBelow l.key l.tail l.rank l.i) (at l.head (leave_slot_value (next_value (at l.tail l.i)) (exit_of (at l.tail l.i)))) l.from
 
-abbrev pub decreases-loop-c : goal.decreases-loop-c
-decreases-loop-c l = l.c
+abbrev pub decreases-loop-j : goal.decreases-loop-j
+decreases-loop-j l = l.from

@@ -17,8 +17,8 @@ loop-i-preserved c =
     let e = rw (c.place_of.ensures, c.exit_of.ensures.0) at c.entered_after.ensures.1 in
     elim c.if-entered_after.branch [
       | then-entered_after+then-not-is_last w ↦
-          rw (w.list-is, w.m-is) (omega arith, listed_put P K X l.i l.list l.m l.invariant.1 (omega (arith, c.requires.by_place.timed.keyed.few, c.requires.upto_le_count, c.loop-i-test.true)) (goes_by _ _ _ w.is_last.ensures (ap not w.if-not-is_last.true)))
+          rw (w.list-is, w.m-is) (listed_put P K X l.i l.list l.m l.invariant (omega (arith, c.requires.by_place.timed.keyed.few, c.requires.upto_le_count, c.loop-i-test.true)) (goes_by _ _ _ w.is_last.ensures (ap not w.if-not-is_last.true)))
       | then-entered_after+else-not-is_last w ↦
-          rw (w.list-is, w.m-is) (omega arith, listed_skip P K X l.i l.list l.m l.invariant.1 (λ C. C.goes_on (last_by _ _ _ w.is_last.ensures (ap not w.if-not-is_last.false))))
-      | else-entered_after w ↦ rw (w.list-is, w.m-is) (omega arith, listed_skip P K X l.i l.list l.m l.invariant.1 (λ C. not_both (e C.entered) w.if-entered_after.false))
+          rw (w.list-is, w.m-is) (listed_skip P K X l.i l.list l.m l.invariant (λ C. C.goes_on (last_by _ _ _ w.is_last.ensures (ap not w.if-not-is_last.false))))
+      | else-entered_after w ↦ rw (w.list-is, w.m-is) (listed_skip P K X l.i l.list l.m l.invariant (λ C. not_both (e C.entered) w.if-entered_after.false))
     ]

@@ -1,10 +1,6 @@
 -- The candidates among the first i rows are listed, in their order; the rows looked at are rows of the book.
-use Prim.Native.Nat.{◌-◌, ◌≤◌}
 use Rattle.bookfit.specs.Ring.{Candidate, Listed}
 use Rattle.bookfit.proofs.candidates.Given as goal
 
 abbrev pub invariant-loop-i : goal.invariant-loop-i
-invariant-loop-i l = (l.i ≤ l.upto) × Listed (Candidate l.key l.tail l.count) l.key l.tail l.i l.list l.m
-
-abbrev pub decreases-loop-i : goal.decreases-loop-i
-decreases-loop-i l = l.upto - l.i
+invariant-loop-i l = Listed (Candidate l.key l.tail l.count) l.key l.tail l.i l.list l.m

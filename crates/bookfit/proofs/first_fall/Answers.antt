@@ -7,8 +7,8 @@ use Rattle.bookfit.proofs.first_fall.Goals as goal
 pub returns-then-key-i : goal.returns-then-key-i
 returns-then-key-i c =
     let l = c.loop-i in
-    falls_at _ _ l.i (omega arith) (omega arith) l.invariant.1 (omega (arith, c.if-key-i.true))
+    falls_at c.args.key.now c.args.count l.i (omega arith) (omega arith) l.invariant c.if-key-i.true
 
 pub loop-i-preserved : goal.loop-i-preserved
 loop-i-preserved c =
-    (omega arith, rise_next _ _ (omega arith) c.loop-i.invariant.1 c.if-key-i.false)
+    rise_next _ _ (omega arith) c.loop-i.invariant c.if-key-i.false

@@ -9,11 +9,10 @@ loop-bad-init c =
     let a = c.args in
     (narrowed_start (Capped a.n a.cap.now) a.key.now a.tail.now _ (capped_inherited a.n a.cap.now) c.requires.fact, c.requires.lent)
 
-pub all_windows-found-requires : goal.all_windows-found-requires
-all_windows-found-requires c =
-    let l = c.loop-bad in
-    let t = l.invariant.1 in
-    record { given = given_to (omega (arith, l.invariant.0.within, l.invariant.0.below)) c.requires.given; start_len = t.len_s; end_len = t.len_e; place_len = t.len_p; first_len = t.len_a }
+pub all_windows-requires-clause-given : goal.all_windows-requires-clause-given
+all_windows-requires-clause-given c =
+    let N = c.loop-bad.invariant.0 in
+    given_to (omega (arith, N.within, N.below)) c.requires.given
 
 pub returns : goal.returns
 returns c =

@@ -1,12 +1,8 @@
 -- Each last row of the first i has marked its ticket's slot, so that one of the same ticket can only be where the slot is marked; there the rows before are
 -- looked through. `low` is the least ticket of one that comes second.
-use Prim.Native.Nat.{◌-◌, ◌≤◌}
 use Rattle.laws.specs.Lists.{at}
 use Rattle.bookfit.specs.Marks.{Ended}
 use Rattle.bookfit.proofs.least_ended.Given as goal
 
 abbrev pub invariant-loop-i : goal.invariant-loop-i
-invariant-loop-i l = (l.i ≤ l.count) × Ended (at l.key) (at l.tail) l.i l.seen l.low
-
-abbrev pub decreases-loop-i : goal.decreases-loop-i
-decreases-loop-i l = l.count - l.i
+invariant-loop-i l = Ended (at l.key) (at l.tail) l.i l.seen l.low

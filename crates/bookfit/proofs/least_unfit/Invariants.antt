@@ -1,5 +1,4 @@
 -- The first i rows are in their ranges, and `low` is the least ticket of one of them that does not fit; a row that fits is in its ranges.
-use Prim.Native.Nat.{◌-◌, ◌≤◌}
 use Rattle.laws.specs.Lists.{at}
 use Rattle.rules.specs.Map.{linked}
 use Rattle.flat.specs.Flat.{links_in}
@@ -7,7 +6,4 @@ use Rattle.bookfit.specs.Rows.{UnfitTo}
 use Rattle.bookfit.proofs.least_unfit.Given as goal
 
 abbrev pub invariant-loop-i : goal.invariant-loop-i
-invariant-loop-i l = (l.i ≤ l.count) × UnfitTo l.n (at l.dur) (linked (links_in l.from l.to l.k)) (at l.key) (at l.tail) l.next_ticket l.i l.low
-
-abbrev pub decreases-loop-i : goal.decreases-loop-i
-decreases-loop-i l = l.count - l.i
+invariant-loop-i l = UnfitTo l.n (at l.dur) (linked (links_in l.from l.to l.k)) (at l.key) (at l.tail) l.next_ticket l.i l.low

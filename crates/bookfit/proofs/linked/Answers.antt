@@ -15,11 +15,9 @@ loop-i-preserved c =
     let K = c.args.key.now in
     let X = c.args.tail.now in
     let n = c.args.count in
-    let e = rw (c.place_of.ensures, c.exit_of.ensures.0) at c.entered_after.ensures.1 in (
-      omega arith,
-      below_next (λ j. Ringed K X n j → ⊥) l.i l.invariant.1 (λ R. elim c.if-entered_after.branch [
-        | then-entered_after+then-not-is_last+else-left w ↦ (rw (w.next_of.ensures.0, w.exit_of-then-not-is_last.ensures.0) at (w.left.ensures w.if-left.false)) _ R.barred
-        | then-entered_after+else-not-is_last w ↦ R.goes_on (last_by _ _ _ w.is_last.ensures (ap not w.if-not-is_last.false))
-        | else-entered_after w ↦ not_both (e (ringed_candidate K X n c.requires (omega arith) l.i R).entered) w.if-entered_after.false
-      ]),
-    )
+    let e = rw (c.place_of.ensures, c.exit_of.ensures.0) at c.entered_after.ensures.1 in
+    below_next (λ j. Ringed K X n j → ⊥) l.i l.invariant (λ R. elim c.if-entered_after.branch [
+      | then-entered_after+then-not-is_last+else-left w ↦ (rw (w.next_of.ensures.0, w.exit_of-then-not-is_last.ensures.0) at (w.left.ensures w.if-left.false)) _ R.barred
+      | then-entered_after+else-not-is_last w ↦ R.goes_on (last_by _ _ _ w.is_last.ensures (ap not w.if-not-is_last.false))
+      | else-entered_after w ↦ not_both (e (ringed_candidate K X n c.requires (omega arith) l.i R).entered) w.if-entered_after.false
+    ])

@@ -1,10 +1,7 @@
 -- None of the rows passed is on a ring: a row on a ring is a candidate, and its next place is left then.
-use Prim.Native.Nat.{ℕ, ◌-◌, ◌≤◌, ◌<◌}
+use Prim.Native.Nat.{ℕ, ◌<◌}
 use Rattle.bookfit.specs.Ring.{Ringed}
 use Rattle.bookfit.proofs.linked.Given as goal
 
 abbrev pub invariant-loop-i : goal.invariant-loop-i
-invariant-loop-i l = (l.i ≤ l.count) × ((j : ℕ) → j < l.i → Ringed l.key l.tail l.count j → ⊥)
-
-abbrev pub decreases-loop-i : goal.decreases-loop-i
-decreases-loop-i l = l.count - l.i
+invariant-loop-i l = (j : ℕ) → j < l.i → Ringed l.key l.tail l.count j → ⊥

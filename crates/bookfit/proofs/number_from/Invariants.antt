@@ -1,10 +1,7 @@
--- All stays in range, and each turn takes one from what is left: nothing else is claimed.
+-- All stays in range: nothing else is claimed.
 use Prim.Native.Nat.{◌<◌}
 use Rattle.bookfit.specs.Filed.{Pile}
 use Rattle.bookfit.proofs.number_from.Given as goal
 
-abbrev pub invariant-loop-left : goal.invariant-loop-left
-invariant-loop-left l = (l.top < 1024) × Pile l.rank l.work l.spot
-
-abbrev pub decreases-loop-left : goal.decreases-loop-left
-decreases-loop-left l = l.left
+abbrev pub invariant-loop : goal.invariant-loop
+invariant-loop l = (l.top < 1024) × Pile l.rank l.work l.spot

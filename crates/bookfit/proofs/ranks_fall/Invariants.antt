@@ -1,11 +1,7 @@
--- Each of the first c listed rows that is ringed is numbered above all that follow it, since one that is not above them is looked at by itself. So no row is
+-- Each listed row met so far that is ringed is numbered above all that follow it, since one that is not above them is looked at by itself. So no row is
 -- ringed once all are passed; and one that is barred is a row of the book that goes on.
-use Prim.Native.Nat.{◌-◌, ◌≤◌}
 use Rattle.bookfit.specs.Filed.{Passed}
 use Rattle.bookfit.proofs.ranks_fall.Given as goal
 
-abbrev pub invariant-loop-c : goal.invariant-loop-c
-invariant-loop-c l = (l.c ≤ l.m) × Passed l.key l.tail l.count l.list l.head l.chain l.rank l.c
-
-abbrev pub decreases-loop-c : goal.decreases-loop-c
-decreases-loop-c l = l.m - l.c
+abbrev pub invariant-loop-y : goal.invariant-loop-y
+invariant-loop-y l = Passed l.key l.tail l.count l.list l.head l.chain l.rank l.y-index

@@ -1,6 +1,7 @@
 -- `booking::book_sound` meets its contract: each refusal's test is its condition, and where none holds the rows of the chosen plan are put in under the
 -- next ticket, which goes up.
-use Prim.Native.Nat.{ℕ, ◌<◌}
+use Prim.Native.Nat.{ℕ, ◌<◌, ◌≤◌}
+use Rattle.std.proofs.Common.{⊎_elim}
 use mathlib.Core.Path.{refl, sym, ap, ◌∙◌}
 use native.Mathlib.Omega.{arith}
 use mathlib.Core.List.{List}
@@ -18,13 +19,9 @@ on_map C D n a z h k = let l = places_long C D n in (omega arith, omega arith)
 
 pub returns-then-a-n : goal.returns-then-a-n
 returns-then-a-n c =
-    let l = places_long c.args.cap.now c.args.dur.now c.args.n in
-    book_off_map (λ h. let x = h.0 in omega (arith, c.if-a-n.true))
-
-pub returns-then-z-n : goal.returns-then-z-n
-returns-then-z-n c =
-    let l = places_long c.args.cap.now c.args.dur.now c.args.n in
-    book_off_map (λ h. let x = h.1 in omega (arith, c.if-z-n.true))
+    let a = c.args in
+    let l = places_long a.cap.now a.dur.now a.n in
+    book_off_map (λ h. let x = h.0 in let y = h.1 in ⊎_elim (λ (t : a.n ≤ a.origin). omega arith) (λ t. let z = t.1 in omega arith) c.then-a-n.either)
 
 pub returns-then-s-gt-DAY : goal.returns-then-s-gt-DAY
 returns-then-s-gt-DAY c =
@@ -34,60 +31,52 @@ pub returns-then-ticket-ge-TICKETS : goal.returns-then-ticket-ge-TICKETS
 returns-then-ticket-ge-TICKETS c =
     book_no_tickets (on_map c.args.cap.now c.args.dur.now c.args.n c.args.origin c.args.dest c.if-a-n.false c.if-z-n.false) c.if-s-gt-DAY.false c.if-ticket-ge-TICKETS.true
 
-pub route-c-requires : goal.route-c-requires
-route-c-requires c =
+pub route-requires : goal.route-requires
+route-requires c =
     let Q = c.requires in
-    let a = c.if-a-n.false in
-    let z = c.if-z-n.false in
-    record { lanes = Q.lanes; by_index = room_there Q; origin_lt_places = (a, z, c.if-s-gt-DAY.false); by_index_2 = λ v h. get_or-replicate 1280 v 86401 0 h; label_len = (refl, refl) }
+    record { lanes = Q.lanes; by_index = room_there Q; origin_lt_places = (c.if-a-n.false, c.if-z-n.false, c.if-s-gt-DAY.false); by_index_2 = λ v h. get_or-replicate 1280 v 86401 0 h; label_len = (refl, refl) }
 
-pub returns-then-c-eq0 : goal.returns-then-c-eq0
-returns-then-c-eq0 c =
+pub returns-in_default : goal.returns-in_default
+returns-in_default c =
     let o = on_map c.args.cap.now c.args.dur.now c.args.n c.args.origin c.args.dest c.if-a-n.false c.if-z-n.false in
-    let none = none_found c.requires c.route-c.ensures c.if-c-eq0.true in
-    book_no_plan o c.if-s-gt-DAY.false c.if-ticket-ge-TICKETS.false none
+    book_no_plan o c.if-s-gt-DAY.false c.if-ticket-ge-TICKETS.false (none_found c.requires c.in_default.ensures)
 
 pub returns-then-rows-c-gt-ROWS : goal.returns-then-rows-c-gt-ROWS
 returns-then-rows-c-gt-ROWS c =
     let o = on_map c.args.cap.now c.args.dur.now c.args.n c.args.origin c.args.dest c.if-a-n.false c.if-z-n.false in
     let Q = c.requires in
-    let R = c.route-c.ensures in
-    let h : 0 < c.route-c.result = omega (arith, c.if-c-eq0.false) in
+    let R = c.in-Some.ensures in
     book_full
     o
     c.if-s-gt-DAY.false
     c.if-ticket-ge-TICKETS.false
-    (found_chosen Q R h)
-    (found_permitted Q R h o.1)
+    (found_chosen Q R)
+    (found_permitted Q R o.1)
     (omega (arith, route_long (found_fits Q R), c.if-rows-c-gt-ROWS.true))
 
 pub step_at-last-requires : goal.step_at-last-requires
 step_at-last-requires c =
-    let Q = c.requires in
-    record { path_fits = found_fits Q c.route-c.ensures; k_lt_count = omega (arith, c.if-c-eq0.false) }
+    record { path_fits = found_fits c.requires c.in-Some.ensures; k_lt_count = omega (arith, c.in-Some.ensures.some) }
 
-pub enter_rows-entered-requires : goal.enter_rows-entered-requires
-enter_rows-entered-requires c =
+pub enter_rows-requires : goal.enter_rows-requires
+enter_rows-requires c =
     let o = on_map c.args.cap.now c.args.dur.now c.args.n c.args.origin c.args.dest c.if-a-n.false c.if-z-n.false in
-    let Q = c.requires in
-    let R = c.route-c.ensures in
-    record { path_fits = found_fits Q R; inserting = found_enters Q R (omega (arith, c.if-c-eq0.false)) o.1 c.if-rows-c-gt-ROWS.false }
+    record { path_fits = found_fits c.requires c.in-Some.ensures; inserting = found_enters c.requires c.in-Some.ensures o.1 c.if-rows-c-gt-ROWS.false }
 
 pub returns : goal.returns
 returns c =
     let o = on_map c.args.cap.now c.args.dur.now c.args.n c.args.origin c.args.dest c.if-a-n.false c.if-z-n.false in
     let Q = c.requires in
-    let R = c.route-c.ensures in
+    let R = c.in-Some.ensures in
     let A = found_fits Q R in
-    let h : 0 < c.route-c.result = omega (arith, c.if-c-eq0.false) in
     book_done
     o
     c.if-s-gt-DAY.false
     c.if-ticket-ge-TICKETS.false
-    (found_chosen Q R h)
-    (found_permitted Q R h o.1)
+    (found_chosen Q R)
+    (found_permitted Q R o.1)
     (omega (arith, route_long A, c.if-rows-c-gt-ROWS.false))
-    (route_arrives _ A h ∙ sym (ap (λ (x : Row). x.exit) c.step_at-last.ensures))
+    (route_arrives _ A R.some ∙ sym (ap (λ (x : Row). x.exit) c.step_at-last.ensures))
     (route_long A)
-    c.enter_rows-entered.ensures
-    c.issued-after.ensures
+    c.enter_rows.ensures
+    c.issued.ensures

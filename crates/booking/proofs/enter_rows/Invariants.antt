@@ -10,13 +10,10 @@ use Rattle.ledger.specs.Inserting.{Inserting}
 use Rattle.booking.proofs.enter_rows.Given as goal
 
 abbrev pub invariant-loop-j : goal.invariant-loop-j
-invariant-loop-j l = Shifted l.r l.initial.out l.out l.j
+invariant-loop-j l = Shifted l.r l.initial.b l.b l.j
 
 abbrev pub decreases-loop-j : goal.decreases-loop-j
 decreases-loop-j l = l.j
 
 abbrev pub invariant-loop-k : goal.invariant-loop-k
-invariant-loop-k l = Inserting (run_rows l.ticket (plan_of l.dur l.place l.label (take l.count l.path))) (rows_of l.initial.out) l.initial.out.next_ticket l.k l.out
-
-abbrev pub decreases-loop-k : goal.decreases-loop-k
-decreases-loop-k l = l.count - l.k
+invariant-loop-k l = Inserting (run_rows l.ticket (plan_of l.dur l.place l.label (take l.count l.path))) (rows_of l.initial.b) l.initial.b.next_ticket l.k l.b

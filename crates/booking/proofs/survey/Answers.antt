@@ -11,4 +11,4 @@ returns c =
     let p : length c.args.m.places ≡ 256 = search (unmapped, rules) in
     let l : length c.args.m.links ≡ 1024 = search (unmapped, rules) in
     let r : length c.args.b.rows ≡ 1024 = search (unmapped, rules) in
-    surveyed c.read_book-count.ensures c.flat_places.ensures c.flat_links.ensures p l r c.judged.ensures c.vet-found.ensures
+    surveyed c.read_book-count.ensures c.flat_places.ensures c.flat_links.ensures p l r c.vet.ensures

@@ -1,10 +1,6 @@
 -- `flatten::flat_places` meets its contract: after p turns the arrays hold the map's first p places, so after 256 turns all of them.
-use Prim.Native.Nat.{◌-◌, ◌≤◌}
 use Rattle.flatten.specs.Maps.{PlacesTo}
 use Rattle.flatten.proofs.flat_places.Given as goal
 
 abbrev pub invariant-loop-p : goal.invariant-loop-p
-invariant-loop-p l = (l.p ≤ 256) × PlacesTo l.m l.cap l.dur l.p
-
-abbrev pub decreases-loop-p : goal.decreases-loop-p
-decreases-loop-p l = 256 - l.p
+invariant-loop-p l = PlacesTo l.fn.m l.cap l.dur l.p

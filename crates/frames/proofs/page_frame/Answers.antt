@@ -15,7 +15,7 @@ pub put_answer-requires : goal.put_answer-requires
 put_answer-requires c =
     let p = c.page-p in
     let h = c.page_head.ensures in
-    let n = c.rows.ensures in
+    let n = c.rows_of.ensures in
     let k : length p.new.out ≡ list_size = p.auto.out in
     let f = (page_within p.ensures).1 in
     record { count_bound = (h.fits, h.long); rows_in_bounds = omega arith; rows_in_bounds_2 = omega arith }
@@ -25,7 +25,7 @@ returns c =
     let a = c.args in
     let p = c.page-p in
     let h = c.page_head in
-    let n = c.rows in
+    let n = c.rows_of in
     let k : length p.new.out ≡ list_size = p.auto.out in
     let f = (page_within p.ensures).1 in
     page_frame_lem a.s.now a.b.now h.result p.result p.new.out n.result

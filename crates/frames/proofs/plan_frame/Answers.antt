@@ -14,7 +14,7 @@ returns c =
     let a = c.args in
     let p = c.plan-p in
     let h = c.plan_head in
-    let n = c.rows in
+    let n = c.rows_of in
     let k : length p.new.out ≡ list_size = p.auto.out in
     let f = plan_within p.ensures in
     let l = length-replicate {A = ℕ} list_size 0 in

@@ -1,6 +1,6 @@
 -- `ledger::remove_ticket` meets its contract: the rows of other tickets among the first i stand one after the other in the new array, which is empty
 -- behind them; the rest of the i rows are the ticket's.
-use Prim.Native.Nat.{◌≤◌, ◌<◌}
+use Prim.Native.Nat.{◌<◌}
 use mathlib.Core.Path.{◌≡◌, ap}
 use mathlib.Core.Bool.{not}
 use native.Mathlib.Omega.{arith}
@@ -10,49 +10,31 @@ use borrow.Author.Tests.{eq-eqb, ne_eqb}
 use Rattle.rules.specs.declared.Book.{Book}
 use Rattle.rules.specs.Book.{other_ticket}
 use Rattle.ledger.specs.Lists.{unmapped}
-use Rattle.ledger.specs.Remove.{Kept, kept_le, kept_next, kept_same, kept_book, kept_count}
+use Rattle.ledger.specs.Remove.{Kept, kept_next, kept_same, kept_book, kept_count}
 use Rattle.ledger.proofs.remove_ticket.Goals as goal
-use Rattle.ledger.proofs.remove_ticket.Goals.{At-loop-i, then-x-ticket, else-x-ticket}
-
--- no more rows are kept than looked at
-few : (c : At-loop-i) → c.loop-i.kept ≤ c.loop-i.i
-few c =
-    let n : length c.args.b.rows ≡ 1024 = search (unmapped, rules) in
-    kept_le (other_ticket c.args.ticket) c.loop-i.invariant.1 (omega (arith, n))
-
-pub offset_bounds-out-kept : goal.offset_bounds-out-kept
-offset_bounds-out-kept c =
-    omega (arith, few (goal.at.offset_bounds-out-kept c).At-loop-i)
-
-pub bounds-out-kept : goal.bounds-out-kept
-bounds-out-kept c =
-    omega (arith, few (goal.at.bounds-out-kept c).At-loop-i)
-
-pub overflow_add-kept : goal.overflow_add-kept
-overflow_add-kept c =
-    omega (arith, few (goal.at.overflow_add-kept c).At-loop-i)
+use Rattle.ledger.proofs.remove_ticket.Goals.{then-x-ticket, else-x-ticket}
 
 pub loop-i-preserved : goal.loop-i-preserved
 loop-i-preserved c =
     let F = other_ticket c.args.ticket in
-    let K = c.loop-i.invariant.1 in
+    let K = c.loop-i.invariant.rows in
     let n : length c.args.b.rows ≡ 1024 = search (unmapped, rules) in
-    let h : c.loop-i.i < length c.args.b.rows = omega (arith, n) in (
-      omega arith,
-      elim c.if-x-ticket.branch [
-        | then-x-ticket w ↦ kept_next F K h (omega arith) (ap not (ne_eqb _ _ w.if-x-ticket.true)) (ap (λ (x : Book). x.rows) w.out-is) w.kept-is
-        | else-x-ticket w ↦ kept_same F K h (ap not (eq-eqb _ _ w.if-x-ticket.false)) (ap (λ (x : Book). x.rows) w.out-is) w.kept-is
-      ],
-    )
-
-pub overflow_sub-result : goal.overflow_sub-result
-overflow_sub-result c =
-    omega (arith, few (goal.at.overflow_sub-result c).At-loop-i)
+    let h : c.loop-i.i < length c.args.b.rows = omega (arith, n) in
+    elim c.if-x-ticket.branch [
+      | then-x-ticket w ↦ record {
+        few = omega (arith, w.kept-is);
+        rows = kept_next F K h (omega arith) (ap not (ne_eqb _ _ w.if-x-ticket.true)) (ap (λ (x : Book). x.rows) w.out-is) w.kept-is;
+      }
+      | else-x-ticket w ↦ record {
+        few = omega (arith, w.kept-is);
+        rows = kept_same F K h (ap not (eq-eqb _ _ w.if-x-ticket.false)) (ap (λ (x : Book). x.rows) w.out-is) w.kept-is;
+      }
+    ]
 
 pub returns : goal.returns
 returns c =
     let b = c.args.b in
     let n : length b.rows ≡ 1024 = search (unmapped, rules) in
     let all : c.loop-i.i ≡ b.count = omega arith in
-    let K : Kept (other_ticket c.args.ticket) b.rows c.loop-i.out.rows c.loop-i.kept b.count = rw all at c.loop-i.invariant.1 in
+    let K : Kept (other_ticket c.args.ticket) b.rows c.loop-i.out.rows c.loop-i.kept b.count = rw all at c.loop-i.invariant.rows in
     (kept_book c.args.ticket b c.loop-i.out c.loop-i.kept n c.requires K, kept_count c.args.ticket b c.loop-i.out c.loop-i.kept n c.requires K)

@@ -3,8 +3,5 @@ use Prim.Native.Nat.{ℕ, ◌≤◌, ◌<◌}
 use Rattle.laws.specs.Lists.{at}
 use Rattle.lookup.proofs.first_back.Given as goal
 
-abbrev pub invariant-loop-a : goal.invariant-loop-a
-invariant-loop-a l = (l.a ≤ l.n) × ((i : ℕ) → l.a ≤ i → i < l.n → l.k ≤ at l.key i)
-
-abbrev pub decreases-loop-a : goal.decreases-loop-a
-decreases-loop-a l = l.a
+abbrev pub invariant-loop-i : goal.invariant-loop-i
+invariant-loop-i l = (l.i ≤ l.n) × ((j : ℕ) → l.i ≤ j → j < l.n → l.k ≤ at l.key j)

@@ -1,44 +1,34 @@
 -- `lookup::leads` meets its contract: the places before h on the list are expanded; when all are, the marks are closed under crossings. All rows of
 -- a place that exit at t are among those that are read.
 use mathlib.Core.Path.{refl}
-use native.Mathlib.Omega.{arith}
 use Rattle.laws.specs.Tests.{not_both}
 use Rattle.flat.specs.Flat.{rows_in}
 use Rattle.lookup.specs.Lists.{listing_start}
 use Rattle.lookup.specs.Spread.{spread_as, going_turn, going_met, going_none}
-use Rattle.lookup.specs.Crossings.{run_up, onward_crossing, crossing_onward}
+use Rattle.lookup.specs.Crossings.{run_of, run_in, onward_crossing, crossing_onward}
 use Rattle.lookup.proofs.leads.Goals as goal
 
 pub put-len-requires : goal.put-len-requires
 put-len-requires c =
     listing_start _ _ refl refl
 
-pub expand-l-requires : goal.expand-l-requires
-expand-l-requires c =
-    let a = c.args in
-    let B = rw c.key_at.ensures.0 at c.first_from-b.ensures in
-    let A = rw c.key_at-in-loop-h.ensures.0 at c.first_back-a.ensures in
-    record { a_le_b = (run_up a.key.now a.tail.now a.n _ a.t A B, omega (arith, B.to, c.requires.timed.keyed.few)); listing = c.loop-h.invariant.list }
+pub expand-requires-clause-a_le_b : goal.expand-requires-clause-a_le_b
+expand-requires-clause-a_le_b c =
+    run_in (run_of c.requires.timed c.requires.t_lt_field_limit c.key_at-in-loop-h.ensures.0 c.first_back-a.ensures c.key_at.ensures.0 c.first_from-b.ensures)
 
-pub returns-then-l-gt256 : goal.returns-then-l-gt256
-returns-then-l-gt256 c =
+pub returns-in_default : goal.returns-in_default
+returns-in_default c =
     let a = c.args in
     let l = c.loop-h in
-    let B = rw c.key_at.ensures.0 at c.first_from-b.ensures in
-    let A = rw c.key_at-in-loop-h.ensures.0 at c.first_back-a.ensures in
-    let m = onward_crossing a.key.now a.tail.now a.n _ a.t A B c.requires.timed c.requires.t_lt_field_limit (c.expand-l.ensures.met c.if-l-gt256.true) in
-    (λ _. going_met (rows_in a.key.now a.tail.now a.n) a.t a.q a.p l.invariant c.loop-h-test.true m, λ _. refl)
+    let R = run_of c.requires.timed c.requires.t_lt_field_limit c.key_at-in-loop-h.ensures.0 c.first_back-a.ensures c.key_at.ensures.0 c.first_from-b.ensures in
+    (λ _. going_met (rows_in a.key.now a.tail.now a.n) a.t a.q a.p l.invariant c.loop-h-test.true (onward_crossing R (c.expand.ensures.met c.in_default.is)), λ _. refl)
 
 pub loop-h-preserved : goal.loop-h-preserved
 loop-h-preserved c =
     let a = c.args in
-    let l = c.loop-h in
-    let B = rw c.key_at.ensures.0 at c.first_from-b.ensures in
-    let A = rw c.key_at-in-loop-h.ensures.0 at c.first_back-a.ensures in
-    going_turn (rows_in a.key.now a.tail.now a.n) a.t a.q a.p l.invariant c.loop-h-test.true (spread_as
-    (λ y o. onward_crossing a.key.now a.tail.now a.n _ a.t A B c.requires.timed c.requires.t_lt_field_limit o)
-    (λ y x. crossing_onward a.key.now a.tail.now a.n _ a.t A B c.requires.timed c.requires.t_lt_field_limit x)
-    (c.expand-l.ensures.spread c.if-l-gt256.false))
+    let R = run_of c.requires.timed c.requires.t_lt_field_limit c.key_at-in-loop-h.ensures.0 c.first_back-a.ensures c.key_at.ensures.0 c.first_from-b.ensures in
+    going_turn (rows_in a.key.now a.tail.now a.n) a.t a.q a.p c.loop-h.invariant c.loop-h-test.true
+    (spread_as (λ y o. onward_crossing R o) (λ y x. crossing_onward R x) (c.expand.ensures.spread _ c.in-Some.is))
 
 pub returns : goal.returns
 returns c =

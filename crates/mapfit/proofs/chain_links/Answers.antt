@@ -6,9 +6,8 @@ use Rattle.mapfit.proofs.chain_links.Goals as goal
 
 pub loop-j-init : goal.loop-j-init
 loop-j-init c =
-    (omega arith, linking_first _ _ _ c.requires.head_len c.requires.chain_len c.requires.by_index)
+    linking_first _ _ _ c.requires.head_len c.requires.chain_len c.requires.by_index
 
 pub loop-j-preserved : goal.loop-j-preserved
 loop-j-preserved c =
-    let l = c.loop-j in
-    (omega arith, linking_turn _ _ _ _ _ l.invariant.1 (omega arith) c.place_index-f.ensures.0 c.place_index-f.ensures.1)
+    linking_turn _ _ _ _ _ c.loop-j.invariant (omega arith) (omega arith) (omega arith)

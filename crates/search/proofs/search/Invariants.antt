@@ -6,8 +6,8 @@ use Rattle.search.specs.Relax.{next_by}
 use Rattle.search.specs.Lanes.{is_at_dest}
 use Rattle.search.proofs.search.Given as goal
 
-abbrev pub invariant-loop-live : goal.invariant-loop-live
-invariant-loop-live l = Going l.windows (next_by (yard_in l.cap l.dur l.places l.from l.to l.links) (rows_in l.key l.tail l.n) l.place l.start l.end) (is_at_dest l.place l.dest) l.src l.s l.label l.live l.least l.before
+abbrev pub invariant-loop-w : goal.invariant-loop-w
+invariant-loop-w l = Going l.windows (next_by (yard_in l.cap l.dur l.places l.from l.to l.links) (rows_in l.key l.tail l.n) l.place l.start l.end) (is_at_dest l.place l.dest) l.src l.s l.label l.live l.least l.before
 
-abbrev pub decreases-loop-live : goal.decreases-loop-live
-decreases-loop-live l = opens (done_of l.label l.live) l.windows
+abbrev pub decreases-loop-w : goal.decreases-loop-w
+decreases-loop-w l = opens (done_of l.label l.live) l.windows

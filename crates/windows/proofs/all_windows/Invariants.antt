@@ -1,12 +1,8 @@
--- The windows written are the free windows of all places in order of place and start, and 1,281 is returned exactly where a place is overfull. The
+-- The windows written are the free windows of all places in order of place and start, and None is returned exactly where a place is overfull. The
 -- loop keeps this for the first p places, whose rows are the first a and whose windows the first w: `past` finds the run of rows of place p, and
--- the sweep adds its windows after those. A place has at most one window more than rows, so there are never more than 1,280. n - p falls.
-use Prim.Native.Nat.{◌-◌}
+-- the sweep adds its windows after those. A place has at most one window more than rows, so there are never more than 1,280.
 use Rattle.windows.specs.Going.{Going}
 use Rattle.windows.proofs.all_windows.Given as goal
 
 abbrev pub invariant-loop-p : goal.invariant-loop-p
 invariant-loop-p l = Going l.n l.count l.cap l.dur l.key l.tail l.p l.a l.w l.start l.end l.place l.first
-
-abbrev pub decreases-loop-p : goal.decreases-loop-p
-decreases-loop-p l = l.n - l.p

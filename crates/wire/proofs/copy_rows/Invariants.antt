@@ -1,10 +1,6 @@
 -- `wire::copy_rows` meets its contract: after j turns the first j rows are written, and each turn puts one more over the next record.
-use Prim.Native.Nat.{◌-◌, ◌≤◌}
 use Rattle.wire.specs.Written.{Copied}
 use Rattle.wire.proofs.copy_rows.Given as goal
 
 abbrev pub invariant-loop-j : goal.invariant-loop-j
-invariant-loop-j l = (l.j ≤ l.n) × Copied l.key l.tail l.from l.j l.initial.out l.out
-
-abbrev pub decreases-loop-j : goal.decreases-loop-j
-decreases-loop-j l = l.n - l.j
+invariant-loop-j l = Copied l.key l.tail l.from l.j l.initial.out l.out

@@ -7,4 +7,4 @@ use Rattle.wire.proofs.read_links.Goals as goal
 pub returns : goal.returns
 returns c =
     let e : c.loop-j.j ≡ c.args.k = omega arith in
-    all_links (rw e at c.loop-j.invariant.1)
+    all_links (rw e at c.loop-j.invariant)

@@ -7,4 +7,4 @@ use Rattle.wire.proofs.read_places.Goals as goal
 pub returns : goal.returns
 returns c =
     let e : c.loop-p.p ≡ c.args.n = omega arith in
-    all_places (rw e at c.loop-p.invariant.1)
+    all_places (rw e at c.loop-p.invariant)

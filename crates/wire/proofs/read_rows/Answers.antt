@@ -7,4 +7,4 @@ use Rattle.wire.proofs.read_rows.Goals as goal
 pub returns : goal.returns
 returns c =
     let e : c.loop-j.j ≡ c.args.count = omega arith in
-    all_rows (rw e at c.loop-j.invariant.1)
+    all_rows (rw e at c.loop-j.invariant)
