@@ -1,17 +1,17 @@
 -- A line in a fixed buffer of 18 digits, and the bytes read from it. No frame has more than 18 digits, so a longer line need not be kept.
 -- Two digits a turn give a byte; where a digit is none, or their number is odd, the line is the digits of no bytes.
-use Rattle.std.specs.Prelude.{ℕ, suc, ◌+◌, ◌*◌, ◌/◌, ◌%◌, ◌≤◌, ◌<◌, ◌≡◌, refl, Bool, true, false, List, [], ◌∷◌, ◌++◌, length, get_or, take, set, replicate}
+use Rattle.std.specs.Prelude.{ℕ, suc, ◌+◌, ◌*◌, ◌/◌, ◌%◌, ◌≤◌, ◌<◌, ◌≡◌, refl, List, [], ◌∷◌, ◌++◌, length, get_or, take, set, replicate, Option, MatchOption}
 use Rattle.std.proofs.Common.{sym, ap, ◌∙◌, ⊎_elim, append_assoc, arith, add-one, length-append, length-set, take-suc, take-suc-set, get_or-set_same, get_or-set_other, get_or-take, length-take-le, le-leb}
 use Rattle.std.proofs.lemmas.Bool.{lt-leb}
 use Rattle.laws.specs.Order.{lt_or_ge, eq_or_ne}
 use Rattle.rules.specs.Bytes.{byte_at}
 use Rattle.rules.specs.Frames.{digit, hex_of, frame_length}
-use Rattle.unique.specs.Hex.{Value, AreBytes, hex_length, hex_append, hex_at_high, hex_at_low}
-use Rattle.unique.specs.Line.{no_kind}
+use Rattle.unique.specs.Hex.{AreBytes, hex_length, hex_append, hex_at_high, hex_at_low}
 use Rattle.rules.specs.declared.Line.{Line}
 use Rattle.rules.specs.Program.{LineIs, empty_line, pushed}
 use Rattle.frames.specs.declared.Decoder.{Decoder}
-use Rattle.frames.specs.declared.Decoder.TheVariants.{Place, Link, Plan, Book, Cancel, Page, Nothing}
+use Rattle.frames.specs.declared.Decoder.TheVariants.{Place, Link, Plan, Book, Cancel, Page}
+use Rattle.frames.specs.declared.Bytes.{Bytes}
 use Rattle.frames.specs.declared.Form.{Form}
 
 -- it stands for some line
@@ -57,12 +57,24 @@ push_full l c n h line L = record {
 
 -- ---- a line's bytes
 
-pub record Decoded (line bytes : List ℕ) (count : ℕ) : Type 0 where
-  pub none : count ≡ 0 → (b : List ℕ) → AreBytes b → line ≡ hex_of b → 1 ≤ length b → length b ≤ 9 → ⊥
-  pub some : 1 ≤ count → line ≡ hex_of (take count bytes)
-  pub are_bytes : AreBytes bytes
-  pub fits : count ≤ 9
-  pub long : length bytes ≡ 9
+-- r is the value of digit c, none where c is no digit
+abbrev pub ValueIs : ℕ → Option ℕ → Type 0
+ValueIs c r = MatchOption r ((x : ℕ) → x < 16 → c ≡ digit x → ⊥) (λ v. (v < 16) × (c ≡ digit v))
+
+-- the line is the digits of these bytes
+pub record DigitsOf (line : List ℕ) (b : Bytes) : Type 0 where
+  pub some : 1 ≤ b.count
+  pub digits : line ≡ hex_of (take b.count b.bytes)
+  pub are_bytes : AreBytes b.bytes
+  pub fits : b.count ≤ 9
+  pub long : length b.bytes ≡ 9
+
+-- or of no bytes
+abbrev pub NoDigits : List ℕ → Type 0
+NoDigits line = (b : List ℕ) → AreBytes b → line ≡ hex_of b → 1 ≤ length b → length b ≤ 9 → ⊥
+
+abbrev pub Decoded : List ℕ → Option Bytes → Type 0
+Decoded line r = MatchOption r (NoDigits line) (DigitsOf line)
 
 -- the first i bytes are read
 pub record ReadTo (digits : List ℕ) (i : ℕ) (bytes : List ℕ) : Type 0 where
@@ -74,15 +86,17 @@ pub read_start : (digits bytes : List ℕ) → ((i : ℕ) → byte_at bytes i �
 unfolding hex_of
 read_start digits bytes z n = record { so_far = refl; are_bytes = λ i. omega (arith, z i); long = n }
 
-pub read_next : {digits bytes : List ℕ} {i h g : ℕ} → length digits ≡ 18 → i < 9 → ReadTo digits i bytes → Value (get_or digits (2 * i) 0) h → h < 16
-    → Value (get_or digits (2 * i + 1) 0) g → g < 16 → ReadTo digits (i + 1) (set bytes i (h * 16 + g))
+pub read_next : {digits bytes : List ℕ} {i h g : ℕ} → length digits ≡ 18 → i < 9 → ReadTo digits i bytes → (h < 16) × (get_or digits (2 * i) 0 ≡ digit h)
+    → (g < 16) × (get_or digits (2 * i + 1) 0 ≡ digit g) → ReadTo digits (i + 1) (set bytes i (h * 16 + g))
 unfolding hex_of
-read_next {digits} {bytes} {i} {h} {g} n m R X a Z b =
+read_next {digits} {bytes} {i} {h} {g} n m R X Z =
     let v : ℕ = h * 16 + g in
+    let a = X.0 in
+    let b = Z.0 in
     let e : 2 * (i + 1) ≡ suc (suc (2 * i)) = omega arith in
     let f : suc (2 * i) ≡ 2 * i + 1 = omega arith in
-    let one : get_or digits (2 * i) 0 ≡ digit h = X.is a in
-    let two : get_or digits (suc (2 * i)) 0 ≡ digit g = ap (λ (k : ℕ). get_or digits k 0) f ∙ Z.is b in
+    let one : get_or digits (2 * i) 0 ≡ digit h = X.1 in
+    let two : get_or digits (suc (2 * i)) 0 ≡ digit g = ap (λ (k : ℕ). get_or digits k 0) f ∙ Z.1 in
     let p : h ≡ v / 16 = omega arith in
     let q : g ≡ v % 16 = omega arith in
     let left : take (2 * (i + 1)) digits ≡ hex_of (take i bytes) ++ (digit h ∷ (digit g ∷ [])) =
@@ -107,17 +121,11 @@ read_next {digits} {bytes} {i} {h} {g} n m R X a Z b =
     }
 
 -- all digits are read
-pub read_all : {l : Line} {bytes : List ℕ} {count : ℕ} → l.len ≤ 18 → 2 * count ≡ l.len → ReadTo l.digits count bytes
-    → (line : List ℕ) → LineIs line l → Decoded line bytes count
-unfolding hex_of
-read_all {l} {bytes} {count} h e R line L = record {
-  none = λ z b B s n m.
-      let w : l.len ≡ 0 = omega arith in
-      let t : line ≡ [] = L.short h ∙ ap (λ (k : ℕ). take k l.digits) w in
-      let u : length line ≡ 0 = ap length t in
-      let v = ap length s in
-      omega (arith, hex_length b);
-  some = λ k. L.short h ∙ ap (λ (n : ℕ). take n l.digits) (sym e) ∙ R.so_far;
+pub read_all : {l : Line} {bytes : List ℕ} {count : ℕ} → 1 ≤ count → l.len ≤ 18 → 2 * count ≡ l.len → ReadTo l.digits count bytes
+    → (line : List ℕ) → LineIs line l → DigitsOf line (record { bytes = bytes; count = count })
+read_all {l} {bytes} {count} some h e R line L = record {
+  some = some;
+  digits = L.short h ∙ ap (λ (n : ℕ). take n l.digits) (sym e) ∙ R.so_far;
   are_bytes = R.are_bytes;
   fits = omega arith;
   long = R.long;
@@ -125,39 +133,41 @@ read_all {l} {bytes} {count} h e R line L = record {
 
 -- ---- lines that are no bytes' digits
 
-pub no_bytes : {bytes : List ℕ} → AreBytes bytes → length bytes ≡ 9 → (line : List ℕ) → ((b : List ℕ) → AreBytes b → line ≡ hex_of b → 1 ≤ length b → length b ≤ 9 → ⊥) → Decoded line bytes 0
-no_bytes B n line f = record { none = λ z. f; some = λ k. absurd (omega arith); are_bytes = B; fits = omega arith; long = n }
-
-abbrev pub Undecoded : Line → List ℕ → Type 0
-Undecoded l bytes = (line : List ℕ) → LineIs line l → Decoded line bytes 0
-
-pub too_long : (l : Line) {bytes : List ℕ} → 18 < l.len → AreBytes bytes → length bytes ≡ 9 → Undecoded l bytes
-too_long l h B n line L = no_bytes B n line (λ b C s m k. let t = ap length s in omega (arith, hex_length b, L.long h))
+abbrev pub Undecoded : Line → Type 0
+Undecoded l = (line : List ℕ) → LineIs line l → NoDigits line
 
 line_length : (l : Line) → length l.digits ≡ 18 → l.len ≤ 18 → (line : List ℕ) → LineIs line l → length line ≡ l.len
 line_length l n h line L = ap length (L.short h) ∙ length-take-le l.len l.digits (omega arith)
 
-pub odd_length : (l : Line) {bytes : List ℕ} → length l.digits ≡ 18 → l.len ≤ 18 → (l.len % 2 ≡ 0 → ⊥) → AreBytes bytes → length bytes ≡ 9 → Undecoded l bytes
-odd_length l d h o B n line L = no_bytes B n line (λ b C s m k. let t = ap length s in let u = line_length l d h line L in let v = hex_length b in o (omega arith))
+-- for their length
+pub bad_length : (l : Line) → length l.digits ≡ 18 → (l.len ≤ 18 → (l.len ≡ 0 → ⊥) → l.len % 2 ≡ 0 → ⊥) → Undecoded l
+bad_length l d f line L b B s m k =
+    let t = ap length s in
+    let v = hex_length b in
+    ⊎_elim
+    (λ (h : 18 < l.len). omega (arith, L.long h))
+    (λ (h : l.len ≤ 18). let u = line_length l d h line L in f h (λ z. omega arith) (omega arith))
+    (lt_or_ge 18 l.len)
 
-module _ (l : Line) {bytes : List ℕ} (i : ℕ) (d : length l.digits ≡ 18) (h : l.len ≤ 18) (in-line : 2 * i + 1 < l.len) (B : AreBytes bytes) (n : length bytes ≡ 9) where
-  pub bad_high : {v : ℕ} → Value (get_or l.digits (2 * i) 0) v → 16 ≤ v → Undecoded l bytes
-  bad_high X g line L = no_bytes B n line (λ b C s m k.
+-- for a digit that is none
+module _ (l : Line) (i : ℕ) (d : length l.digits ≡ 18) (h : l.len ≤ 18) (in-line : 2 * i + 1 < l.len) where
+  pub bad_high : ((x : ℕ) → x < 16 → get_or l.digits (2 * i) 0 ≡ digit x → ⊥) → Undecoded l
+  bad_high f line L b C s m k =
       let t = ap length s in
       let u = line_length l d h line L in
       let w = hex_length b in
       let x : get_or l.digits (2 * i) 0 ≡ digit (byte_at b i / 16) =
       sym (get_or-take l.len l.digits (2 * i) 0 (omega arith)) ∙ ap (λ (q : List ℕ). get_or q (2 * i) 0) (sym (L.short h) ∙ s) ∙ hex_at_high b i (omega arith) in
-      X.none g (byte_at b i / 16) (let z = C i in omega arith) x)
+      f (byte_at b i / 16) (let z = C i in omega arith) x
 
-  pub bad_low : {v : ℕ} → Value (get_or l.digits (2 * i + 1) 0) v → 16 ≤ v → Undecoded l bytes
-  bad_low X g line L = no_bytes B n line (λ b C s m k.
+  pub bad_low : ((x : ℕ) → x < 16 → get_or l.digits (2 * i + 1) 0 ≡ digit x → ⊥) → Undecoded l
+  bad_low f line L b C s m k =
       let t = ap length s in
       let u = line_length l d h line L in
       let w = hex_length b in
       let x : get_or l.digits (2 * i + 1) 0 ≡ digit (byte_at b i % 16) =
       sym (get_or-take l.len l.digits (2 * i + 1) 0 (omega arith)) ∙ ap (λ (q : List ℕ). get_or q (2 * i + 1) 0) (sym (L.short h) ∙ s) ∙ hex_at_low b i (omega arith) in
-      X.none g (byte_at b i % 16) (omega arith) x)
+      f (byte_at b i % 16) (omega arith) x
 
 -- ---- a frame's length and decoder, by its kind
 
@@ -168,24 +178,10 @@ kind_of Plan = 3
 kind_of Book = 4
 kind_of Cancel = 5
 kind_of Page = 6
-kind_of Nothing = 0
 
--- whether its frames change map or book
-abbrev pub changes_by : Decoder → Bool
-changes_by Place = true
-changes_by Link = true
-changes_by Plan = false
-changes_by Book = true
-changes_by Cancel = true
-changes_by Page = false
-changes_by Nothing = false
+-- none of a kind that there is not
+abbrev pub FormIs : ℕ → Option Form → Type 0
+FormIs kind r = MatchOption r (frame_length kind ≡ 0) (λ f. (f.length ≡ frame_length kind) × (kind_of f.decoder ≡ kind))
 
-pub record FormIs (kind : ℕ) (f : Form) : Type 0 where
-  pub length : f.length ≡ frame_length kind
-  pub decodes : 1 ≤ f.length → kind_of f.decoder ≡ kind
-
-pub form_known : (d : Decoder) {n : ℕ} → n ≡ frame_length (kind_of d) → FormIs (kind_of d) (record { length = n; decoder = d })
-form_known d e = record { length = e; decodes = λ h. refl }
-
-pub form_unknown : (k : ℕ) → (k ≡ 1 → ⊥) → (k ≡ 2 → ⊥) → (k ≡ 3 → ⊥) → (k ≡ 4 → ⊥) → (k ≡ 5 → ⊥) → (k ≡ 6 → ⊥) → FormIs k (record { length = 0; decoder = Nothing })
-form_unknown k a b c d e f = record { length = sym (no_kind k a b c d e f); decodes = λ l. absurd (omega arith) }
+pub form_known : (d : Decoder) {kind n : ℕ} → kind ≡ kind_of d → n ≡ frame_length (kind_of d) → (n ≡ frame_length kind) × (kind_of d ≡ kind)
+form_known d e f = (f ∙ ap frame_length (sym e), sym e)

@@ -8,10 +8,8 @@ use Rattle.rules.specs.Frames.{line_of, length_by, frame_length, Frame, Said, Pl
 use Rattle.unique.specs.Hex.{AreBytes, hex_injective}
 use Rattle.rules.specs.declared.Line.{Line}
 use Rattle.rules.specs.Program.{LineIs, Tells}
-use Rattle.frames.specs.Lines.{Decoded}
-
-abbrev pub Reads : Line → List ℕ → ℕ → Type 0
-Reads l bytes n = (line : List ℕ) → LineIs line l → Decoded line bytes n
+use Rattle.frames.specs.declared.Bytes.{Bytes}
+use Rattle.frames.specs.Lines.{DigitsOf, Undecoded}
 
 by_test : (t : Bool) (n m : ℕ) → n ≤ 9 → m ≤ 9 → length_by t n m ≤ 9
 by_test true n m h k = h
@@ -23,16 +21,19 @@ length_few k =
     by_test (eqb k 1) (1 + place_size) _ (omega arith) (by_test (eqb k 2) (1 + link_size) _ (omega arith) (by_test (eqb k 3) 6 _ (omega arith)
     (by_test (eqb k 4) 6 _ (omega arith) (by_test (eqb k 5) 4 _ (omega arith) (by_test (eqb k 6) 9 0 (omega arith) (omega arith))))))
 
-pub no_frame : {s s' : State} {l : Line} {bytes said : List ℕ} {n : ℕ} → n ≡ 0 → Reads l bytes n → Said s (line_of (12 ∷ [])) s' said → Tells s l s' said
-no_frame {s} {s'} {l} {bytes} {said} {n} z D S line L = record {
-  framed = λ b F. absurd ((D line L).none z b F.are_bytes F.digits F.some (let k = length_few (byte_at b 0) in let e = F.shaped in omega arith));
+pub no_frame : {s s' : State} {l : Line} {said : List ℕ} → Undecoded l → Said s (line_of (12 ∷ [])) s' said → Tells s l s' said
+no_frame {s} {s'} {l} {said} D S line L = record {
+  framed = λ b F. absurd (D line L b F.are_bytes F.digits F.some (let k = length_few (byte_at b 0) in let e = F.shaped in omega arith));
   other = λ f. S;
 }
 
+abbrev pub Reads : Line → Bytes → Type 0
+Reads l b = (line : List ℕ) → LineIs line l → DigitsOf line b
+
 -- a frame of the line has the bytes read
-module _ {line bytes : List ℕ} {n : ℕ} (D : Decoded line bytes n) (some : 1 ≤ n) where
-  pub taken_bytes : AreBytes (take n bytes)
-  taken_bytes i = below n bytes i D.are_bytes
+module _ {line : List ℕ} {r : Bytes} (D : DigitsOf line r) where
+  pub taken_bytes : AreBytes (take r.count r.bytes)
+  taken_bytes i = below r.count r.bytes i D.are_bytes
     where
       below : (n : ℕ) (b : List ℕ) (i : ℕ) → AreBytes b → byte_at (take n b) i < 256
       below zero b i B = omega arith
@@ -40,37 +41,37 @@ module _ {line bytes : List ℕ} {n : ℕ} (D : Decoded line bytes n) (some : 1 
       below (suc n) (x ∷ b) zero B = B 0
       below (suc n) (x ∷ b) (suc i) B = below n b i (λ j. B (suc j))
 
-  pub same_bytes : (b : List ℕ) → Frame line b → b ≡ take n bytes
-  same_bytes b F = hex_injective b (take n bytes) (sym F.digits ∙ D.some some)
+  pub same_bytes : (b : List ℕ) → Frame line b → b ≡ take r.count r.bytes
+  same_bytes b F = hex_injective b (take r.count r.bytes) (sym F.digits ∙ D.digits)
 
-  taken_long : length (take n bytes) ≡ n
-  taken_long = length-take-le n bytes (omega (arith, D.fits, D.long))
+  taken_long : length (take r.count r.bytes) ≡ r.count
+  taken_long = length-take-le r.count r.bytes (omega (arith, D.fits, D.long))
 
-  first_byte : byte_at (take n bytes) 0 ≡ byte_at bytes 0
-  first_byte = get_or-take n bytes 0 0 some
+  first_byte : byte_at (take r.count r.bytes) 0 ≡ byte_at r.bytes 0
+  first_byte = get_or-take r.count r.bytes 0 0 D.some
 
-  pub right_length : n ≡ frame_length (byte_at bytes 0) → Frame line (take n bytes)
+  pub right_length : r.count ≡ frame_length (byte_at r.bytes 0) → Frame line (take r.count r.bytes)
   right_length e = record {
     are_bytes = taken_bytes;
-    digits = D.some some;
-    some = omega (arith, taken_long);
+    digits = D.digits;
+    some = omega (arith, taken_long, D.some);
     shaped = taken_long ∙ e ∙ ap frame_length (sym first_byte);
   }
 
-  pub wrong_length : (n ≡ frame_length (byte_at bytes 0) → ⊥) → (b : List ℕ) → Frame line b → ⊥
+  pub wrong_length : (r.count ≡ frame_length (byte_at r.bytes 0) → ⊥) → (b : List ℕ) → Frame line b → ⊥
   wrong_length f b F =
       let e = same_bytes b F in
       f (sym taken_long ∙ ap length (sym e) ∙ F.shaped ∙ ap (λ (x : List ℕ). frame_length (byte_at x 0)) e ∙ ap frame_length first_byte)
 
-pub other_length : {s s' : State} {l : Line} {bytes said : List ℕ} {n : ℕ} → 1 ≤ n → (n ≡ frame_length (byte_at bytes 0) → ⊥) → Reads l bytes n
+pub other_length : {s s' : State} {l : Line} {r : Bytes} {said : List ℕ} → (1 ≤ r.count → r.count ≡ frame_length (byte_at r.bytes 0) → ⊥) → Reads l r
     → Said s (line_of (12 ∷ [])) s' said → Tells s l s' said
-other_length h f D S line L = record { framed = λ b F. absurd (wrong_length (D line L) h f b F); other = λ g. S }
+other_length f D S line L = record { framed = λ b F. absurd (wrong_length (D line L) (f (D line L).some) b F); other = λ g. S }
 
-pub framed_so : {s s' : State} {l : Line} {bytes said : List ℕ} {n : ℕ} → 1 ≤ n → n ≡ frame_length (byte_at bytes 0) → Reads l bytes n
-    → FrameSays s (take n bytes) s' said → Tells s l s' said
-framed_so {s} {s'} {l} {bytes} {said} {n} h e D X line L = record {
-  framed = λ b F. subst (λ (x : List ℕ). FrameSays s x s' said) (sym (same_bytes (D line L) h b F)) X;
-  other = λ g. absurd (g (take n bytes) (right_length (D line L) h e));
+pub framed_so : {s s' : State} {l : Line} {r : Bytes} {said : List ℕ} → r.count ≡ frame_length (byte_at r.bytes 0) → Reads l r
+    → FrameSays s (take r.count r.bytes) s' said → Tells s l s' said
+framed_so {s} {s'} {l} {r} {said} e D X line L = record {
+  framed = λ b F. subst (λ (x : List ℕ). FrameSays s x s' said) (sym (same_bytes (D line L) b F)) X;
+  other = λ g. absurd (g (take r.count r.bytes) (right_length (D line L) e));
 }
 
 -- ---- each kind: what its own function answers is what the frame answers

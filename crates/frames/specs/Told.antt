@@ -13,6 +13,10 @@ pub record Answers (said was out : List ℕ) (len : ℕ) : Type 0 where
   pub put : Put said 0 was out
   pub count : len ≡ length said
 
+-- this state, and so many bytes
+abbrev pub told : State → ℕ → Told
+told s len = record { state = s; len = len }
+
 -- map and book as they were
 abbrev pub kept : State → Bool → ℕ → Told
 kept s closed len = record { state = record { map = s.map; book = s.book; closed = closed }; len = len }

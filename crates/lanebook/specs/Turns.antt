@@ -1,13 +1,11 @@
 -- One turn of the program: no byte of a read is left out and none is taken twice.
-use Rattle.std.specs.Prelude.{ℕ, ◌≤◌, ◌≡◌, true, false, List, [], ◌++◌, length, take}
-use Rattle.std.proofs.Common.{⊎_elim, arith, take_all}
+use Rattle.std.specs.Prelude.{ℕ, ◌≤◌, List, [], ◌++◌, length, take}
+use Rattle.std.proofs.Common.{arith}
 use Rattle.std.proofs.Math.Seq.{slice, slice_empty}
 use Rattle.rules.specs.declared.Desk.{Desk}
 use Rattle.rules.specs.declared.Intake.{Intake}
-use Rattle.rules.specs.declared.Told.{Told}
-use Rattle.rules.specs.Program.{EndedIs, FedIs, Feeds}
+use Rattle.rules.specs.Program.{FedIs, Feeds}
 use Rattle.frames.specs.Cutting.{feeds_none, feeds_append, slice_join}
-use Rattle.lanebook.specs.declared.Turn.{Turn}
 
 -- the bytes to index i are taken, with these answers
 pub record Taking (d : Desk) (buf : List ℕ) (e : Desk) (i : ℕ) : Type 0 where
@@ -15,9 +13,10 @@ pub record Taking (d : Desk) (buf : List ℕ) (e : Desk) (i : ℕ) : Type 0 wher
   pub feeds : Feeds d (slice 0 i buf) e said
   pub within : i ≤ length buf
 
--- all bytes are taken, where the answers could be written
-pub record Took (d : Desk) (buf : List ℕ) (r : Turn) : Type 0 where
-  pub all : r.on ≡ true → (said : List ℕ) × Feeds d buf r.desk said
+-- all bytes are taken
+pub record Took (d : Desk) (buf : List ℕ) (e : Desk) : Type 0 where
+  pub said : List ℕ
+  pub feeds : Feeds d buf e said
 
 pub taking_start : (d : Desk) (buf : List ℕ) → Taking d buf d 0
 taking_start d buf = record { said = []; feeds = rw (slice_empty 0 buf) (feeds_none d); within = omega arith }
@@ -28,12 +27,3 @@ taking_next {d} {e} {buf} {was} {out} {i} {r} T F = record {
   feeds = rw (slice_join 0 i r.upto buf (omega arith) F.after (F.within T.within)) at (feeds_append T.feeds F.feeds);
   within = F.within T.within;
 }
-
-pub took_all : {d e : Desk} {buf : List ℕ} {i : ℕ} → Taking d buf e i → length buf ≤ i → Took d buf (record { desk = e; on = true })
-took_all {d} {e} {buf} {i} T h = record { all = λ _. (T.said, rw (take_all i buf h) at T.feeds) }
-
-pub took_none : {d e : Desk} {buf : List ℕ} → Took d buf (record { desk = e; on = false })
-took_none = record { all = λ k. let z : ◌≡◌ {A = ℕ} 0 1 = cc in absurd (omega arith) }
-
-pub ended_fits : {d : Desk} {was out : List ℕ} {r : Told} → EndedIs d was out r → r.len ≤ length out
-ended_fits E = ⊎_elim (λ x. omega (arith, x.1.none)) (λ x. omega (arith, x.0, x.1.fits, x.1.long)) E

@@ -1,100 +1,68 @@
 // Reads frames from standard input and writes their answers: those of all whole lines read so far are written before it reads again.
 #![tactic(auto)]
 
-ghost use Rattle.std.specs.Prelude.{◌≤◌, length};
+ghost use Rattle.std.specs.Prelude.{◌≤◌, length, IfOk};
 ghost use Rattle.rules.specs.Bytes.{answer_room};
 ghost use Rattle.lanebook.specs.Turns.{Took};
 
 use rules::Desk;
-use std::io::Read;
+use std::fmt;
+use std::io::{self, Read};
 
-// What stands after a read, and whether to read on.
-#[derive(Clone, Copy)]
-struct Turn {
-    desk: Desk,
-    on: bool,
+// What ends the program before its input does.
+#[derive(Drop)]
+enum Stop {
+    Read(io::Error),
+    Write(io::Error),
 }
 
-// The first n bytes of a list, written.
-fn write(rt: &(impl Print + Eprint), out: &[u8], n: usize) -> bool
-    requires { n ≤ length out.now }
-{
-    match rt.write_all(&out[..n]) {
-        Ok(()) => true,
-        Err(e) => {
-            let _ = eprintln!(rt; "write: {e}");
-            false
+impl fmt::Display for Stop {
+    fn fmt<W: fmt::Write>(&self, f: &mut fmt::Formatter<W>) -> fmt::Result {
+        match self {
+            Stop::Read(e) => write!(f, "read: {e}"),
+            Stop::Write(e) => write!(f, "write: {e}"),
         }
     }
 }
 
 // What one read brought, answered: the answers are written whenever there is no room for one more, and at the end.
-fn answered(rt: &(impl Print + Eprint), d: Desk, buf: &[u8], out: &mut [u8]) -> Turn
+fn answered(rt: &impl Print, d: Desk, buf: &[u8], out: &mut [u8]) -> Result<Desk, Stop>
     requires { answer_room ≤ length out.old }
-    ensures { Took d buf.now result }
+    ensures { IfOk result (λ e. Took d buf.now e) }
 {
     let mut desk = d;
-    let mut i: usize = 0;
+    let mut i = 0;
     while i < buf.len() {
         let f = frames::fed(desk, buf, i, out);
         desk = f.desk;
         i = f.upto;
-        if !write(rt, out, f.len) {
-            return Turn { desk, on: false };
-        }
+        rt.write_all(&out[..f.len]).map_err(Stop::Write)?;
     }
-    Turn { desk, on: true }
+    Ok(desk)
 }
 
-// The last line, where it lacks its line feed.
-fn last(rt: &(impl Print + Eprint), d: Desk, out: &mut [u8])
+// Reads and answers until the input ends; its last line may lack its line feed. A proved loop has to end, and nothing says that the input does: the turns
+// are counted up to a number that no run uses up.
+fn run(rt: &impl Print, input: &mut impl Read, buf: &mut [u8], out: &mut [u8]) -> Result<(), Stop>
     requires { answer_room ≤ length out.old }
 {
-    let t = frames::ended(d, out);
-    write(rt, out, t.len);
-}
-
-// One read, and its answers.
-fn sit(
-    rt: &(impl Print + Eprint),
-    input: &mut impl Read,
-    d: Desk,
-    buf: &mut [u8],
-    out: &mut [u8],
-) -> Turn
-    requires { answer_room ≤ length out.old }
-{
-    match input.read(buf) {
-        Ok(0) => {
-            last(rt, d, out);
-            Turn { desk: d, on: false }
-        }
-        Ok(n) => answered(rt, d, &buf[..n], out),
-        Err(e) => {
-            let _ = eprintln!(rt; "read: {e}");
-            Turn { desk: d, on: false }
-        }
-    }
-}
-
-// A proved loop has to end, and nothing says that the input does: the turns are counted up to a number that no run uses up.
-fn run(rt: &(impl Print + Eprint), input: &mut impl Read, buf: &mut [u8], out: &mut [u8])
-    requires { answer_room ≤ length out.old }
-{
-    let d = frames::first_desk();
-    let mut t = Turn { desk: d, on: true };
+    let mut desk = frames::first_desk();
     for _ in 0..u64::MAX {
-        if !t.on {
-            return;
+        let n = input.read(buf).map_err(Stop::Read)?;
+        if n == 0 {
+            let t = frames::ended(desk, out);
+            return rt.write_all(&out[..t.len]).map_err(Stop::Write);
         }
-        let e = t.desk;
-        t = sit(rt, input, e, buf, out);
+        desk = answered(rt, desk, &buf[..n], out)?;
     }
+    Ok(())
 }
 
 fn main(rt: HostRuntime) {
-    let mut buf = [0u8; 65536];
-    let mut out = [0u8; 65536];
+    let mut buf = [0; 65536];
+    let mut out = [0; 65536];
     let mut input = rt.stdin();
-    run(&rt, &mut input, &mut buf, &mut out);
+    if let Err(e) = run(&rt, &mut input, &mut buf, &mut out) {
+        let _ = eprintln!(rt; "{e}");
+    }
 }

@@ -4,5 +4,4 @@ use Rattle.frames.proofs.book_frame.Goals as goal
 
 pub returns : goal.returns
 returns c =
-    rw c.closed_with-next.ensures
-    (book_frame_lem c.args.s c.args.b.now c.book_head-h.result c.book-r.result c.args.b.now c.wide-start.ensures c.wide-destination.ensures c.three-second.ensures.0 c.book-r.ensures c.book_head-h.ensures c.put_answer-len.ensures)
+    book_frame_lem c.args.s.now c.args.b.now c.book_head.result c.book-r.result c.three-second.ensures.0 c.book-r.ensures c.book_head.ensures c.put_answer.ensures

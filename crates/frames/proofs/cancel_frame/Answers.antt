@@ -4,5 +4,4 @@ use Rattle.frames.proofs.cancel_frame.Goals as goal
 
 pub returns : goal.returns
 returns c =
-    rw c.closed_with-next.ensures
-    (cancel_frame_lem c.args.s c.args.b.now c.cancel_head-h.result c.cancel-r.result c.args.b.now c.three-ticket.ensures.0 c.cancel-r.ensures c.cancel_head-h.ensures c.put_answer-len.ensures)
+    cancel_frame_lem c.args.s.now c.args.b.now c.cancel_head.result c.cancel-r.result c.three.ensures.0 c.cancel-r.ensures c.cancel_head.ensures c.put_answer.ensures

@@ -11,12 +11,12 @@ use Rattle.frames.specs.Told.{silent}
 use Rattle.frames.specs.Cutting.{nothing_begun, fed_silent, fed_ended}
 use Rattle.frames.proofs.ended.Goals as goal
 
-pub returns-then-line-eq0 : goal.returns-then-line-eq0
-returns-then-line-eq0 c =
+pub returns-then-d-eq0 : goal.returns-then-d-eq0
+returns-then-d-eq0 c =
     let a = c.args in
     ⊎_elim
     (λ (h : length a.out.now < answer_room). inl ((λ k. omega arith), silent _ _))
-    (λ (h : answer_room ≤ length a.out.now). inr (h, nothing_begun a.d a.out.now c.if-line-eq0.true))
+    (λ (h : answer_room ≤ length a.out.now). inr (h, nothing_begun a.d a.out.now c.if-d-eq0.true))
     (lt_or_ge (length a.out.now) answer_room)
 
 pub returns : goal.returns
@@ -26,5 +26,5 @@ returns c =
     let n : length a.d.line.digits ≡ 18 = search (c.well_formed.0.1.1.1.0, rules) in
     ⊎_elim
     (λ (h : length a.out.now < answer_room). inl ((λ k. omega arith), fed_silent a.d f h))
-    (λ (h : answer_room ≤ length a.out.now). inr (h, fed_ended a.d f h n c.if-line-eq0.false))
+    (λ (h : answer_room ≤ length a.out.now). inr (h, fed_ended a.d f h n c.if-d-eq0.false))
     (lt_or_ge (length a.out.now) answer_room)

@@ -5,4 +5,4 @@ use Rattle.frames.proofs.link_frame.Goals as goal
 
 pub returns : goal.returns
 returns c =
-    link_kept c.args.s c.args.b.now c.put_number-len.ensures c.if-s.false (omega arith)
+    link_kept c.args.s.now c.args.b.now c.put_number.ensures c.if-s.false (omega arith)

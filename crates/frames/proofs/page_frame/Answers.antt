@@ -7,15 +7,15 @@ use Rattle.desk.specs.Few.{page_within}
 use Rattle.frames.specs.Frames.{page_frame_lem}
 use Rattle.frames.proofs.page_frame.Goals as goal
 
-pub page_head-h-requires : goal.page_head-h-requires
-page_head-h-requires c =
+pub page_head-requires : goal.page_head-requires
+page_head-requires c =
     omega (arith, (page_within c.page-p.ensures).1)
 
 pub put_answer-requires : goal.put_answer-requires
 put_answer-requires c =
     let p = c.page-p in
-    let h = c.page_head-h.ensures in
-    let n = c.rows-rows.ensures in
+    let h = c.page_head.ensures in
+    let n = c.rows_of.ensures in
     let k : length p.new.out ≡ list_size = p.auto.out in
     let f = (page_within p.ensures).1 in
     record { count_bound = (h.fits, h.long); rows_in_bounds = omega arith; rows_in_bounds_2 = omega arith }
@@ -24,13 +24,11 @@ pub returns : goal.returns
 returns c =
     let a = c.args in
     let p = c.page-p in
-    let h = c.page_head-h in
-    let n = c.rows-rows in
+    let h = c.page_head in
+    let n = c.rows_of in
     let k : length p.new.out ≡ list_size = p.auto.out in
     let f = (page_within p.ensures).1 in
-    page_frame_lem a.s a.b.now h.result p.result p.new.out n.result
-    c.wide-size.ensures
-    c.wide-place.ensures
-    c.three-entry.ensures.0
-    c.three-ticket.ensures.0
+    page_frame_lem a.s.now a.b.now h.result p.result p.new.out n.result
+    c.three.ensures.0
+    c.three-2.ensures.0
     p.ensures (omega (arith, n.ensures)) k n.ensures h.ensures c.put_answer.ensures

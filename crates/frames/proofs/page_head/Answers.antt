@@ -1,6 +1,6 @@
 -- `frames::page_head` meets its contract: the array's bytes are 00, the count's low byte and whether more follow, or a refusal's number.
 use Rattle.frames.proofs.page_head.Goals as goal
 
-pub returns-in-Refused : goal.returns-in-Refused
-returns-in-Refused c =
-    rw c.in-Refused.is (c.refused_head.ensures _)
+pub returns-in-Err : goal.returns-in-Err
+returns-in-Err c =
+    rw c.in-Err.is (c.refused_head.ensures _)

@@ -5,4 +5,4 @@ use Rattle.frames.proofs.place_frame.Goals as goal
 
 pub returns : goal.returns
 returns c =
-    place_kept c.args.s c.args.b.now c.put_number-len.ensures c.if-s.false c.two-duration.ensures.0 (omega arith)
+    place_kept c.args.s.now c.args.b.now c.put_number.ensures c.if-s.false c.two.ensures.0 (omega arith)

@@ -13,13 +13,11 @@ pub returns : goal.returns
 returns c =
     let a = c.args in
     let p = c.plan-p in
-    let h = c.plan_head-h in
-    let n = c.rows-rows in
+    let h = c.plan_head in
+    let n = c.rows_of in
     let k : length p.new.out ≡ list_size = p.auto.out in
     let f = plan_within p.ensures in
     let l = length-replicate {A = ℕ} list_size 0 in
-    plan_frame_lem a.s a.b.now h.result p.result p.new.out n.result
-    c.wide-start.ensures
-    c.wide-destination.ensures
+    plan_frame_lem a.s.now a.b.now h.result p.result p.new.out n.result
     c.three-second.ensures.0
     p.ensures (omega (arith, n.ensures)) k n.ensures h.ensures c.put_answer.ensures

@@ -4,8 +4,8 @@ use borrow.Author.Rules.{rules}
 use Rattle.frames.specs.Lines.{pushed_short, pushed_full, push_short, push_full}
 use Rattle.frames.proofs.push.Goals as goal
 
-pub returns-then-at-ge18 : goal.returns-then-at-ge18
-returns-then-at-ge18 c =
+pub returns-then-l-ge18 : goal.returns-then-l-ge18
+returns-then-l-ge18 c =
     (pushed_full c.args.l c.args.c (omega arith), push_full c.args.l c.args.c (search rules) (omega arith))
 
 pub returns : goal.returns

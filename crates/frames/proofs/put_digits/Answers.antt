@@ -5,8 +5,8 @@ use Rattle.frames.proofs.put_digits.Goals as goal
 
 pub loop-i-init : goal.loop-i-init
 loop-i-init c =
-    (omega arith, digits_start _ _ _ _)
+    digits_start _ _ _ _
 
 pub loop-i-preserved : goal.loop-i-preserved
 loop-i-preserved c =
-    (omega arith, digits_next (omega arith) (omega arith) c.loop-i.invariant.1 c.put_byte.ensures)
+    digits_next (omega arith) (omega arith) c.loop-i.invariant c.put_byte.ensures

@@ -5,4 +5,4 @@ use Rattle.frames.proofs.put_rows.Goals as goal
 
 pub loop-j-preserved : goal.loop-j-preserved
 loop-j-preserved c =
-    (omega arith, rows_next (omega arith) (omega arith) c.loop-j.invariant.1 c.put_line.ensures)
+    rows_next (omega arith) (omega arith) c.loop-j.invariant c.put_line.ensures

@@ -4,4 +4,4 @@ use Rattle.frames.proofs.refused.Goals as goal
 
 pub returns : goal.returns
 returns c =
-    refused_line c.args.s c.put_number-len.ensures
+    refused_line _ c.put_number.ensures

@@ -1,11 +1,6 @@
 -- `frames::take_line` meets its contract: the bytes passed end no line and are on the line, until a line feed ends it or the bytes end.
-use Prim.Native.Nat.{◌-◌}
-use lib.ListN.{length}
 use Rattle.frames.specs.Cutting.{Going}
 use Rattle.frames.proofs.take_line.Given as goal
 
 abbrev pub invariant-loop-i : goal.invariant-loop-i
 invariant-loop-i l = Going l.initial.line l.buf l.from l.i l.line
-
-abbrev pub decreases-loop-i : goal.decreases-loop-i
-decreases-loop-i l = length l.buf - l.i
