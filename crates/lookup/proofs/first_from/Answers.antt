@@ -1,12 +1,14 @@
--- `lookup::first_from` meets its contract: the keys rise, so that those below k come first.
-use Rattle.std.proofs.Common.{rules, ltb, arith}
-use Rattle.std.proofs.lemmas.List.Sorted.{IsPartitionPoint-from_clause, IsPartitionedBy-ltb}
-use Rattle.lookup.specs.Keys.{keys_rise, split_at}
+-- `lookup::first_from` meets its contract: the loop keeps the stretch base .. base + left in which the key must be; a turn halves it, by a hop that is 0
+-- or the upper half's start.
+use mathlib.Core.Path.{refl}
+use borrow.Author.Tests.{lt-ltb, le-ltb}
+use Rattle.laws.specs.Lists.{at}
+use Rattle.lookup.specs.Search.{among_hop}
+use Rattle.lookup.specs.Keys.{weakly}
 use Rattle.lookup.proofs.first_from.Goals as goal
 
-pub returns : goal.returns
-returns c =
-    let a = c.args in
-    let parted = IsPartitionedBy-ltb (λ x. x) _ a.k (keys_rise a.key.now a.n (omega arith) c.requires.keyed.rises) in
-    let point = IsPartitionPoint-from_clause (λ x. ltb x a.k) _ _ c.partition_point.ensures.partitioned parted (λ r q u k. search rules) in
-    split_at a.key.now a.n a.k (omega arith) c.partition_point.ensures.bound point
+pub loop-left-preserved : goal.loop-left-preserved
+loop-left-preserved c =
+    let l = c.loop-left in
+    among_hop (at c.args.key.now) c.args.k c.args.n l.base l.left (weakly c.requires.keyed.rises) l.invariant c.loop-left-test.true c.from.result
+    (λ h. rw (c.from.ensures, lt-ltb _ c.args.k h) refl) (λ h. rw (c.from.ensures, le-ltb _ c.args.k h) refl)
