@@ -161,6 +161,7 @@ fn word_of(l: Line) -> Option<Word>
 // ---- lines printed
 
 // The digit of a value.
+#[tactic(auto, unfolding(rules::specs::Frames::digit))]
 fn digit_of(x: u8) -> u8
     requires { x < 16 }
     ensures { result ≡ digit x }
