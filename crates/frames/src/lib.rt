@@ -45,6 +45,7 @@ fn push(l: Line, c: u8) -> Line
 // ---- a line's bytes
 
 // The value of an uppercase hexadecimal digit.
+#[tactic(auto, using(crate::specs::Lines::no_digit, unique::specs::Hex::digit_low, unique::specs::Hex::digit_high))]
 fn value(c: u8) -> Option<u8>
     ensures { ValueIs c result }
 {
@@ -104,6 +105,7 @@ impl Form {
     const LINK: usize = 1 + Link::BYTES;
 }
 
+#[tactic(auto, unfolding(rules::specs::Frames::frame_length))]
 fn form_of(kind: u8) -> Option<Form>
     ensures { FormIs kind result }
 {
@@ -306,6 +308,7 @@ fn put_answer(h: Head, list: &[u8], rows: usize, out: &mut [u8]) -> usize
 // ---- frames
 
 // A line of one byte.
+#[tactic(auto, unfolding(rules::specs::Frames::hex_of))]
 fn put_number(x: u8, out: &mut [u8]) -> usize
     requires { 3 ≤ length out.old }
     ensures { Answers (line_of (x ∷ [])) out.old out.new result }

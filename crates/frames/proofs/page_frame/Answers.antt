@@ -4,10 +4,6 @@ use Rattle.desk.specs.Few.{page_within}
 use Rattle.frames.specs.Frames.{page_frame_lem}
 use Rattle.frames.proofs.page_frame.Goals as goal
 
-pub page_head-requires : goal.page_head-requires
-page_head-requires c =
-    omega (arith, (page_within c.page-p.ensures).1)
-
 pub put_answer-requires : goal.put_answer-requires
 put_answer-requires c =
     let h = c.page_head.ensures in
