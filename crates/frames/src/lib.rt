@@ -46,7 +46,6 @@ fn push(l: Line, c: u8) -> Line
 // ---- a line's bytes
 
 // The value of an uppercase hexadecimal digit.
-#[tactic(auto, using(crate::specs::Lines::no_digit, unique::specs::Hex::digit_low, unique::specs::Hex::digit_high))]
 fn value(c: u8) -> Option<u8>
     ensures { ValueIs c result }
 {
