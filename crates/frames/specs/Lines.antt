@@ -6,7 +6,7 @@ use Rattle.std.proofs.lemmas.Bool.{lt-leb}
 use Rattle.laws.specs.Order.{lt_or_ge, eq_or_ne}
 use Rattle.rules.specs.Bytes.{byte_at}
 use Rattle.rules.specs.Frames.{digit, hex_of, frame_length}
-use Rattle.unique.specs.Hex.{AreBytes, hex_length, hex_append, hex_at_high, hex_at_low}
+use Rattle.unique.specs.Hex.{value_none, AreBytes, hex_length, hex_append, hex_at_high, hex_at_low}
 use Rattle.rules.specs.declared.Line.{Line}
 use Rattle.rules.specs.Program.{LineIs, empty_line, pushed}
 use Rattle.frames.specs.declared.Decoder.{Decoder}
@@ -60,6 +60,9 @@ push_full l c n h line L = record {
 -- r is the value of digit c, none where c is no digit
 abbrev pub ValueIs : ℕ → Option ℕ → Type 0
 ValueIs c r = MatchOption r ((x : ℕ) → x < 16 → c ≡ digit x → ⊥) (λ v. (v < 16) × (c ≡ digit v))
+
+pub no_digit : (c x : ℕ) → (48 ≤ c → c ≤ 57 → ⊥) → (65 ≤ c → c ≤ 70 → ⊥) → x < 16 → c ≡ digit x → ⊥
+no_digit c x f g = (value_none c f g).none (omega arith) x
 
 -- the line is the digits of these bytes
 pub record DigitsOf (line : List ℕ) (b : Bytes) : Type 0 where
@@ -182,6 +185,3 @@ kind_of Page = 6
 -- none of a kind that there is not
 abbrev pub FormIs : ℕ → Option Form → Type 0
 FormIs kind r = MatchOption r (frame_length kind ≡ 0) (λ f. (f.length ≡ frame_length kind) × (kind_of f.decoder ≡ kind))
-
-pub form_known : (d : Decoder) {kind n : ℕ} → kind ≡ kind_of d → n ≡ frame_length (kind_of d) → (n ≡ frame_length kind) × (kind_of d ≡ kind)
-form_known d e f = (f ∙ ap frame_length (sym e), sym e)

@@ -108,9 +108,6 @@ rows_snoc (suc n) list =
 pub record RowsPut (list : List ℕ) (j at : ℕ) (was out : List ℕ) : Type 0 where
   pub put : Put (row_lines j list) at was out
 
-pub rows_start : (list : List ℕ) (at : ℕ) (was : List ℕ) → RowsPut list 0 at was was
-rows_start list at was = record { put = put_none was at }
-
 pub rows_next : {list : List ℕ} {j at : ℕ} {was mid out : List ℕ} → row_size * (j + 1) ≤ length list → at + row_line_size * j ≤ length was → RowsPut list j at was mid
     → Put (line_of (take row_size (drop (row_size * j) list))) (at + row_line_size * j) mid out → RowsPut list (j + 1) at was out
 rows_next {list} {j} {at} {was} {mid} {out} h g R P =

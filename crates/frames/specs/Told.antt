@@ -17,7 +17,7 @@ pub record Answers (said was out : List ℕ) (len : ℕ) : Type 0 where
 abbrev pub told : State → ℕ → Told
 told s len = record { state = s; len = len }
 
--- map and book as they were
+-- its map and book, the map closed or not, and so many bytes
 abbrev pub kept : State → Bool → ℕ → Told
 kept s closed len = record { state = record { map = s.map; book = s.book; closed = closed }; len = len }
 

@@ -2,6 +2,7 @@
 #![tactic(auto)]
 
 ghost use Rattle.std.specs.Prelude.{◌≡◌, true, ℕ, ◌+◌, ◌*◌, ◌%◌, ◌<◌, ◌≤◌, List, [], ◌∷◌, ◌++◌, length, take, drop, MatchOption};
+ghost use Rattle.rules.specs.declared.State.{State};
 ghost use Rattle.rules.specs.Rows.{bit};
 ghost use Rattle.rules.specs.Bytes.{bytes2, bytes3, row_size, row_line_size, answer_room};
 ghost use Rattle.rules.specs.Answer.{number, answer_number, planned_arrival, planned_count, booked_ticket, booked_arrival, booked_count, cancelled_count, paged_count, paged_rows, paged_more};
@@ -104,6 +105,7 @@ impl Form {
     const LINK: usize = 1 + Link::BYTES;
 }
 
+#[tactic(auto, unfolding(rules::specs::Frames::frame_length))]
 fn form_of(kind: u8) -> Option<Form>
     ensures { FormIs kind result }
 {
@@ -161,6 +163,7 @@ fn word_of(l: Line) -> Option<Word>
 // ---- lines printed
 
 // The digit of a value.
+#[tactic(auto, unfolding(rules::specs::Frames::digit))]
 fn digit_of(x: u8) -> u8
     requires { x < 16 }
     ensures { result ≡ digit x }
@@ -305,6 +308,7 @@ fn put_answer(h: Head, list: &[u8], rows: usize, out: &mut [u8]) -> usize
 // ---- frames
 
 // A line of one byte.
+#[tactic(auto, unfolding(rules::specs::Frames::hex_of))]
 fn put_number(x: u8, out: &mut [u8]) -> usize
     requires { 3 ≤ length out.old }
     ensures { Answers (line_of (x ∷ [])) out.old out.new result }
@@ -314,9 +318,9 @@ fn put_number(x: u8, out: &mut [u8]) -> usize
 }
 
 // "A line refused with 12 changes nothing."
-fn refused(s: &mut State, out: &mut [u8]) -> usize
+fn refused(out: &mut [u8]) -> usize
     requires { answer_room ≤ length out.old }
-    ensures { Spoken (Said s.old (line_of (12 ∷ []))) out.old out.new (told s.new result) }
+    ensures { (s : State) → Spoken (Said s (line_of (12 ∷ []))) out.old out.new (told s result) }
 {
     put_number(12, out)
 }
@@ -327,7 +331,7 @@ fn place_frame(s: &mut State, b: &[u8; 9], out: &mut [u8]) -> usize
 {
     let n = s.map.place_count;
     if s.closed || n >= Map::PLACES {
-        return refused(s, out);
+        return refused(out);
     }
     s.map.places[n] = Place {
         capacity: b[1],
@@ -343,7 +347,7 @@ fn link_frame(s: &mut State, b: &[u8; 9], out: &mut [u8]) -> usize
 {
     let n = s.map.link_count;
     if s.closed || n >= Map::LINKS {
-        return refused(s, out);
+        return refused(out);
     }
     s.map.links[n] = Link {
         from: b[1],
@@ -406,7 +410,7 @@ fn tell(s: &mut State, l: Line, out: &mut [u8]) -> usize
     ensures { Spoken (Tells s.old l) out.old out.new (told s.new result) }
 {
     let Some(w) = word_of(l) else {
-        return refused(s, out);
+        return refused(out);
     };
     let b = &w.bytes;
     let len = match w.decoder {
@@ -467,8 +471,7 @@ fn take_line(l: Line, buf: &[u8], from: usize) -> Cut
     }
 }
 
-// The answers of the lines that the bytes from an index on end, as long as the caller's list has room for one more. A line that leaves map and book
-// as they are makes no new state.
+// The answers of the lines that the bytes from an index on end, as long as the caller's list has room for one more.
 pub fn fed(d: Desk, buf: &[u8], from: usize, out: &mut [u8]) -> Intake
     ensures { FedIs d buf.now from out.old out.new result }
 {
