@@ -1,6 +1,5 @@
 -- `booking::enter_rows` meets its contract: the outer loop keeps `Inserting`, that the first k of the path's rows are put in and the others can be too;
 -- in the inner one the rows from j on are moved up by one and are above the new row, which goes where it ends.
-use Prim.Native.Nat.{◌-◌}
 use lib.ListN.{take}
 use Rattle.rules.specs.Plan.{run_rows}
 use Rattle.rules.specs.Book.{rows_of}

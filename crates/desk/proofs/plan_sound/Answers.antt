@@ -1,5 +1,5 @@
 -- `desk::plan_sound` meets its contract: each refusal stands where its condition is tested, in the order of the table, and the plan is the route's.
-use Prim.Native.Nat.{◌<◌, ◌≤◌}
+use Prim.Native.Nat.{◌≤◌}
 use Rattle.std.proofs.Common.{⊎_elim}
 use mathlib.Core.Path.{refl, sym, ap, ◌∙◌}
 use native.Mathlib.Omega.{arith}

@@ -1,5 +1,5 @@
 -- `paging::page_flat` meets its contract: what vetting refuses is refused, and of a sound book, whose keys rise, a page is shown.
-use mathlib.Core.Path.{refl, sym, ◌∙◌}
+use mathlib.Core.Path.{refl}
 use native.Mathlib.Omega.{arith}
 use Rattle.std.proofs.lemmas.Result.{err_from_is_err_and}
 use Rattle.laws.specs.Lists.{zeros}
