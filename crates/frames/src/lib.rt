@@ -231,6 +231,7 @@ fn refused_head(r: Refusal) -> Head
     }
 }
 
+// The four heads stay apart: each writes other numbers, and what they share is `refused_head`.
 fn plan_head(p: Result<Trip, Refusal>) -> Head
     ensures { HeadIs (after00 (answer_number p) (bytes3 (planned_arrival p) ++ bytes2 (planned_count p))) result }
 {
@@ -325,6 +326,7 @@ fn refused(out: &mut [u8]) -> usize
     put_number(12, out)
 }
 
+// This and `link_frame` stay apart: each fills another list of the map, and what they share is `refused` and `put_number`.
 fn place_frame(s: &mut State, b: &[u8; 9], out: &mut [u8]) -> usize
     requires { answer_room ≤ length out.old }
     ensures { Spoken (PlaceFrame s.old b.now) out.old out.new (told s.new result) }
@@ -441,7 +443,7 @@ pub fn answer(s: State, l: Line, out: &mut [u8]) -> Told
 
 // ---- input cut into lines
 
-// The line as far as the bytes reach: to its line feed, or to their end.
+// The line as far as the bytes reach: to its line feed, where it is ended, or to their end; both have all three.
 #[derive(Clone, Copy)]
 struct Cut {
     line: Line,
@@ -478,6 +480,7 @@ pub fn fed(d: Desk, buf: &[u8], from: usize, out: &mut [u8]) -> Intake
     let mut desk = d;
     let mut upto = from;
     let mut len = 0;
+    // a turn takes a line, or what is begun of one: no index is counted
     'lines: while upto < buf.len() && out.len() - len >= Row::ANSWER {
         let cut = take_line(desk.line, buf, upto);
         upto = cut.upto;

@@ -32,6 +32,7 @@ fn answered(rt: &impl Print, d: Desk, buf: &[u8], out: &mut [u8]) -> Result<Desk
 {
     let mut desk = d;
     let mut i = 0;
+    // a turn goes on where `fed` stopped: no index is counted
     while i < buf.len() {
         let f = frames::fed(desk, buf, i, out);
         desk = f.desk;

@@ -85,7 +85,7 @@ fn packed_refusal(r: Refusal) -> u64
     u64::from(r.number()) * 4294967296 + r.row() as u64
 }
 
-// A plan's answer as one number.
+// A plan's answer as one number; this and a page's stay apart, since each packs other numbers.
 fn packed_plan(p: Result<Trip, Refusal>) -> u64
     requires { planned_count p ≤ 1844674407370955161 }
     ensures { result ≡ one_number (answer_number p) (planned_arrival p) (planned_count p) }
