@@ -22,6 +22,7 @@ ghost use Rattle.bookfit.specs.Filed.{leave_slot_value, Chains, NextOn, Filed, P
 ghost use Rattle.bookfit.specs.Formed.{Capped};
 ghost use Rattle.bookfit.specs.Answer.{Lent, FirstBroken, BookFits};
 
+use flat::{Rows, Ways, Windows, Yard};
 use rules::{Book, Map, Refusal};
 
 // The day's end, as wide as a key.
@@ -58,19 +59,19 @@ fn lesser(a: Option<u64>, b: Option<u64>) -> Option<u64>
 }
 
 // The least ticket of a row that goes on and has no successor, or one that a row before has taken, if any; any table serves as hints.
-fn least_astray(key: &[u64; 1024], tail: &[u32; 1024], count: usize, hint: &[u16]) -> Option<u64>
+fn least_astray(rows: &Rows, count: usize, hint: &[u16]) -> Option<u64>
     requires count_bound { count ≤ 1024 }
-    requires packed { Packed key.now }
-    requires keys_rise { KeysRise key.now count }
-    ensures { Lowest (Joins (at key.now) (at tail.now) count) (at key.now) count result }
+    requires packed { Packed rows.now.key }
+    requires keys_rise { KeysRise rows.now.key count }
+    ensures { Lowest (Joins (at rows.now.key) (at rows.now.tail) count) (at rows.now.key) count result }
 {
     let mut taken = [false; 1024];
     let mut low = None;
     for i in 0..count {
-        let k = key[i];
-        let x = tail[i];
+        let k = rows.key[i];
+        let x = rows.tail[i];
         if !is_last(k, x) {
-            match lookup::hinted(key, hint, count, next_key(k, x)) {
+            match lookup::hinted(&rows.key, hint, count, next_key(k, x)) {
                 Some(j) if !taken[j] => taken[j] = true,
                 _ => low = lesser(low, Some(k % flat::SECOND)),
             }
@@ -80,19 +81,19 @@ fn least_astray(key: &[u64; 1024], tail: &[u32; 1024], count: usize, hint: &[u16
 }
 
 // The same: a table of hints pays off where rows are many.
-fn least_unjoined(key: &[u64; 1024], tail: &[u32; 1024], count: usize) -> Option<u64>
+fn least_unjoined(rows: &Rows, count: usize) -> Option<u64>
     requires count_bound { count ≤ 1024 }
-    requires packed { Packed key.now }
-    requires keys_rise { KeysRise key.now count }
-    ensures { Lowest (Joins (at key.now) (at tail.now) count) (at key.now) count result }
+    requires packed { Packed rows.now.key }
+    requires keys_rise { KeysRise rows.now.key count }
+    ensures { Lowest (Joins (at rows.now.key) (at rows.now.tail) count) (at rows.now.key) count result }
 {
     if count < 64 {
         let none = [0u16; 1];
-        return least_astray(key, tail, count, &none);
+        return least_astray(rows, count, &none);
     }
     let mut hint = [0u16; 4096];
-    lookup::fill_hints(key, count, &mut hint);
-    least_astray(key, tail, count, &hint)
+    lookup::fill_hints(&rows.key, count, &mut hint);
+    least_astray(rows, count, &hint)
 }
 
 // the last row of ticket t
@@ -114,18 +115,18 @@ fn last_among(key: &[u64; 1024], tail: &[u32; 1024], i: usize, t: u64) -> bool
 }
 
 // The least ticket of a last row before which another is the last of its ticket, if any: a look back only where a ticket's slot is marked already.
-fn least_ended(key: &[u64; 1024], tail: &[u32; 1024], count: usize) -> Option<u64>
+fn least_ended(rows: &Rows, count: usize) -> Option<u64>
     requires { count ≤ 1024 }
-    ensures { Lowest (EndsOnce (at key.now) (at tail.now)) (at key.now) count result }
+    ensures { Lowest (EndsOnce (at rows.now.key) (at rows.now.tail)) (at rows.now.key) count result }
 {
     let mut seen = [false; 4096];
     let mut low = None;
     for i in 0..count {
-        let k = key[i];
-        if is_last(k, tail[i]) {
+        let k = rows.key[i];
+        if is_last(k, rows.tail[i]) {
             let h = (k % 4096) as usize;
             let t = k % flat::SECOND;
-            if seen[h] && last_among(key, tail, i, t) {
+            if seen[h] && last_among(&rows.key, &rows.tail, i, t) {
                 low = lesser(low, Some(t));
             }
             seen[h] = true;
@@ -175,28 +176,18 @@ fn least_exit(key: u64, d: u32) -> u64
 }
 
 // a row keeps to the map, to the day and to its place's duration, and goes on along a link
-fn row_fits(
-    n: usize,
-    k: usize,
-    dur: &[u32; 256],
-    from: &[u8; 1024],
-    to: &[u8; 1024],
-    head: &[u16; 256],
-    chain: &[u16; 1024],
-    key: u64,
-    tail: u32,
-) -> bool
-    requires k_bound { k ≤ 1024 }
-    requires chained { Chained from.now k head.now chain.now }
+fn row_fits(yard: &Yard, ways: &Ways, key: u64, tail: u32) -> bool
+    requires k_bound { yard.now.links ≤ 1024 }
+    requires chained { Chained yard.now.from yard.now.links ways.now.head ways.now.chain }
     requires key_lt_key_limit { key < key_limit }
-    ensures { Decides result (RowFits n (at dur.now) (linked (links_in from.now to.now k)) (row_of key tail)) }
+    ensures { Decides result (RowFits yard.now.places (at yard.now.dur) (linked (links_in yard.now.from yard.now.to yard.now.links)) (row_of key tail)) }
 {
     let p = (key / flat::PLACE) as usize;
     let next = flat::next_of(tail);
     let q = next as usize;
     let x = flat::exit_of(tail) as u64;
-    let least = least_exit(key, dur[p]);
-    if p >= n {
+    let least = least_exit(key, yard.dur[p]);
+    if p >= yard.places {
         return false;
     }
     if x > DAY {
@@ -208,40 +199,34 @@ fn row_fits(
     if p == q {
         return x == least;
     }
-    mapfit::linked_by(p, next, k, from, to, head, chain)
+    mapfit::linked_by(yard, ways, p, next)
 }
 
 // The least ticket of a row that does not fit, if one does not; refused where a row's numbers are out of their ranges. A row that fits is within them.
 fn least_unfit(
-    n: usize,
-    k: usize,
-    dur: &[u32; 256],
-    from: &[u8; 1024],
-    to: &[u8; 1024],
-    head: &[u16; 256],
-    chain: &[u16; 1024],
+    yard: &Yard,
+    ways: &Ways,
+    rows: &Rows,
     next_ticket: u32,
-    key: &[u64; 1024],
-    tail: &[u32; 1024],
     count: usize,
 ) -> Result<Option<u64>, Refusal>
     requires count_bound { count ≤ 1024 }
-    requires k_bound { k ≤ 1024 }
-    requires chained { Chained from.now k head.now chain.now }
-    requires packed { Packed key.now }
-    requires on_map { OnMap n (linked (links_in from.now to.now k)) }
-    ensures { Unfit n (at dur.now) (linked (links_in from.now to.now k)) (at key.now) (at tail.now)
+    requires k_bound { yard.now.links ≤ 1024 }
+    requires chained { Chained yard.now.from yard.now.links ways.now.head ways.now.chain }
+    requires packed { Packed rows.now.key }
+    requires on_map { OnMap yard.now.places (linked (links_in yard.now.from yard.now.to yard.now.links)) }
+    ensures { Unfit yard.now.places (at yard.now.dur) (linked (links_in yard.now.from yard.now.to yard.now.links)) (at rows.now.key) (at rows.now.tail)
         next_ticket count result }
 {
     let mut low = None;
     for i in 0..count {
-        let x = key[i];
-        let y = tail[i];
+        let x = rows.key[i];
+        let y = rows.tail[i];
         if !ticket_fits(x, next_ticket) {
             return Err(Refusal::BadBook);
         }
-        if !row_fits(n, k, dur, from, to, head, chain, x, y) {
-            if !in_range(n, x, y) {
+        if !row_fits(yard, ways, x, y) {
+            if !in_range(yard.places, x, y) {
                 return Err(Refusal::BadBook);
             }
             low = lesser(low, Some(x % flat::SECOND));
@@ -259,50 +244,34 @@ fn first_of(key: &[u64; 1024], count: usize, t: u64) -> Option<usize>
 }
 
 // The first row of the lowest ticket whose rows are no plan, none where all are. `unfit` is the least ticket of a row that does not fit.
-fn first_broken(
-    key: &[u64; 1024],
-    tail: &[u32; 1024],
-    count: usize,
-    unfit: Option<u64>,
-) -> Option<usize>
+fn first_broken(rows: &Rows, count: usize, unfit: Option<u64>) -> Option<usize>
     requires count_bound { count ≤ 1024 }
-    requires packed { Packed key.now }
-    requires keys_rise { KeysRise key.now count }
-    ensures { FirstBroken key.now tail.now count unfit result }
+    requires packed { Packed rows.now.key }
+    requires keys_rise { KeysRise rows.now.key count }
+    ensures { FirstBroken rows.now.key rows.now.tail count unfit result }
 {
-    let astray = least_unjoined(key, tail, count);
-    let ended = least_ended(key, tail, count);
+    let astray = least_unjoined(rows, count);
+    let ended = least_ended(rows, count);
     let t = lesser(unfit, lesser(astray, ended))?;
-    first_of(key, count, t)
+    first_of(&rows.key, count, t)
 }
 
 // ---- a place overfilled
 
 // The number, from 1, of the first row at which a place is overfilled, of rows that overfill one: the first `good` rows overfill none, the first `bad`
 // rows do. What is lent for windows holds nothing of use after.
-fn first_overfull(
-    n: usize,
-    count: usize,
-    cap: &[u8; 256],
-    dur: &[u32; 256],
-    key: &[u64; 1024],
-    tail: &[u32; 1024],
-    start: &mut [u32; 1280],
-    end: &mut [u32; 1280],
-    place: &mut [u8; 1280],
-    first: &mut [u16; 257],
-) -> usize
-    requires given { Given n count cap.now dur.now key.now tail.now }
-    requires fact { Capped n cap.now (rows_in key.now tail.now count) → ⊥ }
-    requires lent { Lent start.old end.old place.old first.old }
-    ensures { FirstAt (Capped n cap.now) key.now tail.now count result }
+fn first_overfull(yard: &Yard, rows: &Rows, windows: &mut Windows, count: usize) -> usize
+    requires given { Given yard.now.places count yard.now.cap yard.now.dur rows.now.key rows.now.tail }
+    requires fact { Capped yard.now.places yard.now.cap (rows_in rows.now.key rows.now.tail count) → ⊥ }
+    requires lent { Lent windows.old.start windows.old.end windows.old.place windows.old.first }
+    ensures { FirstAt (Capped yard.now.places yard.now.cap) rows.now.key rows.now.tail count result }
 {
     // Halved by hand: the test looks at a whole beginning of the book, not at one element.
     let mut good = 0;
     let mut bad = count;
     while bad - good > 1 {
         let mid = good + (bad - good) / 2;
-        match windows::all_windows(n, mid, cap, dur, key, tail, start, end, place, first) {
+        match windows::all_windows(yard, rows, windows, mid) {
             Some(_) => good = mid,
             None => bad = mid,
         }
@@ -323,23 +292,17 @@ fn leave_slot(place: u8, second: u32) -> usize
 }
 
 // Of the first `upto` rows those that go on out of a place which another of the book enters then: no other can be on a ring. How many they are.
-fn candidates(
-    key: &[u64; 1024],
-    tail: &[u32; 1024],
-    count: usize,
-    upto: usize,
-    list: &mut [u16; 1024],
-) -> usize
-    requires by_place { ByPlace key.now tail.now count }
+fn candidates(rows: &Rows, count: usize, upto: usize, list: &mut [u16; 1024]) -> usize
+    requires by_place { ByPlace rows.now.key rows.now.tail count }
     requires upto_le_count { upto ≤ count }
     requires list_len { length list.old ≡ 1024 }
-    ensures { Listed (Candidate key.now tail.now count) key.now tail.now upto list.new result }
+    ensures { Listed (Candidate rows.now.key rows.now.tail count) rows.now.key rows.now.tail upto list.new result }
 {
     let mut m = 0;
     for i in 0..upto {
-        let k = key[i];
-        let x = tail[i];
-        if lookup::entered_after(key, count, i, flat::place_of(k), flat::exit_of(x)) {
+        let k = rows.key[i];
+        let x = rows.tail[i];
+        if lookup::entered_after(&rows.key, count, i, flat::place_of(k), flat::exit_of(x)) {
             if !is_last(k, x) {
                 list[m] = i as u16;
                 m += 1;
@@ -351,45 +314,37 @@ fn candidates(
 
 // each listed row put in front of its slot's chain
 fn file_rows(
-    key: &[u64; 1024],
-    tail: &[u32; 1024],
+    rows: &Rows,
     count: usize,
     list: &[u16; 1024],
     m: usize,
     head: &mut [u16; 1024],
     chain: &mut [u16; 1024],
 )
-    requires keyed { Keyed key.now count }
-    requires listed { Listed (Ringed key.now tail.now count) key.now tail.now count list.now m }
-    requires filed { Filed key.now tail.now list.now m 0 head.old chain.old }
-    ensures { Filed key.now tail.now list.now m m head.new chain.new }
+    requires keyed { Keyed rows.now.key count }
+    requires listed { Listed (Ringed rows.now.key rows.now.tail count) rows.now.key rows.now.tail count list.now m }
+    requires filed { Filed rows.now.key rows.now.tail list.now m 0 head.old chain.old }
+    ensures { Filed rows.now.key rows.now.tail list.now m m head.new chain.new }
 {
     for x in &list[..m] {
         let i = *x as usize;
-        let h = leave_slot(flat::place_of(key[i]), flat::exit_of(tail[i]));
+        let h = leave_slot(flat::place_of(rows.key[i]), flat::exit_of(rows.tail[i]));
         chain[i] = head[h];
         head[h] = *x + 1;
     }
 }
 
 // The first row from start on along a chain that leaves place q at t, if there is one.
-fn leaver(
-    key: &[u64; 1024],
-    tail: &[u32; 1024],
-    chain: &[u16; 1024],
-    start: u16,
-    q: u8,
-    t: u32,
-) -> Option<usize>
+fn leaver(rows: &Rows, chain: &[u16; 1024], start: u16, q: u8, t: u32) -> Option<usize>
     requires start_bound { start ≤ 1024 }
     requires by_index { (j : ℕ) → at chain.now j ≤ j }
-    ensures { NextOn chain.now (Leaves key.now tail.now q t) start result }
+    ensures { NextOn chain.now (Leaves rows.now.key rows.now.tail q t) start result }
 {
     let mut cur = start as usize;
     // Links are followed by number, 0 at a chain's end: the chains stand in arrays of a fixed size.
     while cur > 0 {
         let j = cur - 1;
-        if flat::exit_of(tail[j]) == t && key[j] / flat::PLACE == u64::from(q) {
+        if flat::exit_of(rows.tail[j]) == t && rows.key[j] / flat::PLACE == u64::from(q) {
             return Some(j);
         }
         cur = chain[j] as usize;
@@ -419,8 +374,7 @@ fn pile_up(
 
 // Row i and all that it leads to numbered, each after those that follow it as far as there is no ring, in at most 20,000 turns. The last number given.
 fn number_from(
-    key: &[u64; 1024],
-    tail: &[u32; 1024],
+    rows: &Rows,
     head: &[u16; 1024],
     chain: &[u16; 1024],
     rank: &mut [u16; 1024],
@@ -436,16 +390,16 @@ fn number_from(
 {
     let mut done = from;
     let mut top = 0;
-    pile_up(tail, head, rank, work, spot, 0, i);
+    pile_up(&rows.tail, head, rank, work, spot, 0, i);
     for _ in 0..20000 {
         let x = work[top] as usize;
-        let q = flat::next_of(tail[x]);
-        let t = flat::exit_of(tail[x]);
-        if let Some(j) = leaver(key, tail, chain, spot[top], q, t) {
+        let q = flat::next_of(rows.tail[x]);
+        let t = flat::exit_of(rows.tail[x]);
+        if let Some(j) = leaver(rows, chain, spot[top], q, t) {
             spot[top] = chain[j];
             if rank[j] == 0 && top < 1023 {
                 top += 1;
-                pile_up(tail, head, rank, work, spot, top, j);
+                pile_up(&rows.tail, head, rank, work, spot, top, j);
             }
         } else {
             if done < 1024 {
@@ -463,8 +417,7 @@ fn number_from(
 
 // Each listed row numbered. Any numbers would do, since they are tested.
 fn number_rows(
-    key: &[u64; 1024],
-    tail: &[u32; 1024],
+    rows: &Rows,
     list: &[u16; 1024],
     m: usize,
     head: &[u16; 1024],
@@ -483,15 +436,14 @@ fn number_rows(
     for x in &list[..m] {
         let i = *x as usize;
         if rank[i] == 0 {
-            done = number_from(key, tail, head, chain, rank, &mut work, &mut spot, i, done);
+            done = number_from(rows, head, chain, rank, &mut work, &mut spot, i, done);
         }
     }
 }
 
 // row i is numbered above all listed rows that leave its next place then
 fn above_all(
-    key: &[u64; 1024],
-    tail: &[u32; 1024],
+    rows: &Rows,
     head: &[u16; 1024],
     chain: &[u16; 1024],
     rank: &[u16; 1024],
@@ -499,13 +451,13 @@ fn above_all(
 ) -> bool
     requires i_bound { i < 1024 }
     requires chains { Chains head.now chain.now }
-    ensures { result ≡ true → AboveAll key.now tail.now head.now chain.now rank.now i }
+    ensures { result ≡ true → AboveAll rows.now.key rows.now.tail head.now chain.now rank.now i }
 {
-    let q = flat::next_of(tail[i]);
-    let t = flat::exit_of(tail[i]);
+    let q = flat::next_of(rows.tail[i]);
+    let t = flat::exit_of(rows.tail[i]);
     let r = rank[i];
     let mut from = head[leave_slot(q, t)];
-    while let Some(j) = leaver(key, tail, chain, from, q, t) {
+    while let Some(j) = leaver(rows, chain, from, q, t) {
         if rank[j] >= r {
             return false;
         }
@@ -516,8 +468,7 @@ fn above_all(
 
 // No listed row is barred: one that is not above all that follow it is looked at by itself.
 fn ranks_fall(
-    key: &[u64; 1024],
-    tail: &[u32; 1024],
+    rows: &Rows,
     count: usize,
     list: &[u16; 1024],
     m: usize,
@@ -525,21 +476,20 @@ fn ranks_fall(
     chain: &[u16; 1024],
     rank: &[u16; 1024],
 ) -> bool
-    requires timed { Timed key.now tail.now count }
-    requires listed { Listed (Ringed key.now tail.now count) key.now tail.now count list.now m }
-    requires filed { Filed key.now tail.now list.now m m head.now chain.now }
-    ensures { Decides result (Unbarred (rows_in key.now tail.now count)) }
+    requires timed { Timed rows.now.key rows.now.tail count }
+    requires listed { Listed (Ringed rows.now.key rows.now.tail count) rows.now.key rows.now.tail count list.now m }
+    requires filed { Filed rows.now.key rows.now.tail list.now m m head.now chain.now }
+    ensures { Decides result (Unbarred (rows_in rows.now.key rows.now.tail count)) }
 {
     for y in &list[..m] {
         let i = *y as usize;
-        if !above_all(key, tail, head, chain, rank, i) {
-            let x = tail[i];
+        if !above_all(rows, head, chain, rank, i) {
+            let x = rows.tail[i];
             if lookup::leads(
-                key,
-                tail,
+                rows,
                 count,
                 flat::next_of(x),
-                flat::place_of(key[i]),
+                flat::place_of(rows.key[i]),
                 flat::exit_of(x),
             ) {
                 return false;
@@ -550,33 +500,33 @@ fn ranks_fall(
 }
 
 // No crossing of the first `upto` rows is barred by the others among them: the candidates are listed, filed and numbered, and their numbers tested.
-fn ring_free(key: &[u64; 1024], tail: &[u32; 1024], count: usize, upto: usize) -> bool
-    requires by_place { ByPlace key.now tail.now count }
+fn ring_free(rows: &Rows, count: usize, upto: usize) -> bool
+    requires by_place { ByPlace rows.now.key rows.now.tail count }
     requires upto_le_count { upto ≤ count }
-    ensures { Decides result (Unbarred (rows_in key.now tail.now upto)) }
+    ensures { Decides result (Unbarred (rows_in rows.now.key rows.now.tail upto)) }
 {
     let mut list = [0u16; 1024];
-    let m = candidates(key, tail, count, upto, &mut list);
+    let m = candidates(rows, count, upto, &mut list);
     // 0 stands for no row and no number: half the room of an Option, in arrays that are cleared often.
     let mut head = [0u16; 1024];
     let mut chain = [0u16; 1024];
-    file_rows(key, tail, upto, &list, m, &mut head, &mut chain);
+    file_rows(rows, upto, &list, m, &mut head, &mut chain);
     let mut rank = [0u16; 1024];
-    number_rows(key, tail, &list, m, &head, &chain, &mut rank);
-    ranks_fall(key, tail, upto, &list, m, &head, &chain, &rank)
+    number_rows(rows, &list, m, &head, &chain, &mut rank);
+    ranks_fall(rows, upto, &list, m, &head, &chain, &rank)
 }
 
 // One row goes on out of a place which another enters then, to one which another leaves then: without one there is no ring.
-fn linked(key: &[u64; 1024], tail: &[u32; 1024], count: usize) -> bool
-    requires { ByPlace key.now tail.now count }
-    ensures { result ≡ false → (i : ℕ) → Ringed key.now tail.now count i → ⊥ }
+fn linked(rows: &Rows, count: usize) -> bool
+    requires { ByPlace rows.now.key rows.now.tail count }
+    ensures { result ≡ false → (i : ℕ) → Ringed rows.now.key rows.now.tail count i → ⊥ }
 {
     for i in 0..count {
-        let k = key[i];
-        let x = tail[i];
-        if lookup::entered_after(key, count, i, flat::place_of(k), flat::exit_of(x)) {
+        let k = rows.key[i];
+        let x = rows.tail[i];
+        if lookup::entered_after(&rows.key, count, i, flat::place_of(k), flat::exit_of(x)) {
             if !is_last(k, x) {
-                if lookup::left(key, tail, count, flat::next_of(x), flat::exit_of(x)) {
+                if lookup::left(rows, count, flat::next_of(x), flat::exit_of(x)) {
                     return true;
                 }
             }
@@ -587,25 +537,25 @@ fn linked(key: &[u64; 1024], tail: &[u32; 1024], count: usize) -> bool
 
 // no crossing of the book is barred by the others; most often two that follow each other are not to be found
 #[tactic(auto, using(crate::specs::Ring::unringed_unbarred))]
-fn exchange_kept(key: &[u64; 1024], tail: &[u32; 1024], count: usize) -> bool
-    requires { ByPlace key.now tail.now count }
-    ensures { Decides result (Unbarred (rows_in key.now tail.now count)) }
+fn exchange_kept(rows: &Rows, count: usize) -> bool
+    requires { ByPlace rows.now.key rows.now.tail count }
+    ensures { Decides result (Unbarred (rows_in rows.now.key rows.now.tail count)) }
 {
-    !linked(key, tail, count) || ring_free(key, tail, count, count)
+    !linked(rows, count) || ring_free(rows, count, count)
 }
 
 // The number, from 1, of the first row at which a crossing is barred, of rows of which one is: the first `good` rows hold no ring, the first `bad` rows do.
-fn first_barred(key: &[u64; 1024], tail: &[u32; 1024], count: usize) -> usize
-    requires by_place { ByPlace key.now tail.now count }
-    requires fact { Unbarred (rows_in key.now tail.now count) → ⊥ }
-    ensures { FirstAt Unbarred key.now tail.now count result }
+fn first_barred(rows: &Rows, count: usize) -> usize
+    requires by_place { ByPlace rows.now.key rows.now.tail count }
+    requires fact { Unbarred (rows_in rows.now.key rows.now.tail count) → ⊥ }
+    ensures { FirstAt Unbarred rows.now.key rows.now.tail count result }
 {
     // Halved by hand: the test looks at a whole beginning of the book, not at one element.
     let mut good = 0;
     let mut bad = count;
     while bad - good > 1 {
         let mid = good + (bad - good) / 2;
-        if ring_free(key, tail, count, mid) {
+        if ring_free(rows, count, mid) {
             good = mid;
         } else {
             bad = mid;
@@ -619,65 +569,40 @@ fn first_barred(key: &[u64; 1024], tail: &[u32; 1024], count: usize) -> usize
 // The number of free windows of a well-formed book, which stand in the lent arrays place after place; else what is wrong with it and at which row.
 // A row is looked for only where its check has failed.
 pub fn book_fits(
-    n: usize,
-    k: usize,
-    cap: &[u8; 256],
-    dur: &[u32; 256],
-    from: &[u8; 1024],
-    to: &[u8; 1024],
-    head: &[u16; 256],
-    chain: &[u16; 1024],
-    count: usize,
-    next_ticket: u32,
-    key: &[u64; 1024],
-    tail: &[u32; 1024],
-    start: &mut [u32; 1280],
-    end: &mut [u32; 1280],
-    place: &mut [u8; 1280],
-    first: &mut [u16; 257],
+    yard: &Yard,
+    ways: &Ways,
+    rows: &Rows,
+    windows: &mut Windows,
 ) -> Result<usize, Refusal>
-    requires map_rules { MapRules (places_in cap.now dur.now n) (links_in from.now to.now k) }
-    requires chained { Chained from.now k head.now chain.now }
-    requires packed { Packed key.now }
-    requires lent { Lent start.old end.old place.old first.old }
-    ensures { BookFits cap.now dur.now n from.now to.now k key.now tail.now count next_ticket
-        result start.new end.new place.new first.new }
+    requires map_rules { MapRules (places_in yard.now.cap yard.now.dur yard.now.places) (links_in yard.now.from yard.now.to yard.now.links) }
+    requires chained { Chained yard.now.from yard.now.links ways.now.head ways.now.chain }
+    requires packed { Packed rows.now.key }
+    requires lent { Lent windows.old.start windows.old.end windows.old.place windows.old.first }
+    ensures { BookFits yard.now.cap yard.now.dur yard.now.places yard.now.from yard.now.to yard.now.links rows.now.key rows.now.tail rows.now.count rows.now.next_ticket
+        result windows.new.start windows.new.end windows.new.place windows.new.first }
 {
-    if count > Book::ROWS {
+    if rows.count > Book::ROWS {
         return Err(Refusal::BadBook);
     }
-    if next_ticket < 1 {
+    if rows.next_ticket < 1 {
         return Err(Refusal::BadBook);
     }
-    if next_ticket > Book::TICKETS {
+    if rows.next_ticket > Book::TICKETS {
         return Err(Refusal::BadBook);
     }
-    let unfit = least_unfit(
-        n,
-        k,
-        dur,
-        from,
-        to,
-        head,
-        chain,
-        next_ticket,
-        key,
-        tail,
-        count,
-    )?;
-    if let Some(i) = first_fall(key, count) {
+    let unfit = least_unfit(yard, ways, rows, rows.next_ticket, rows.count)?;
+    if let Some(i) = first_fall(&rows.key, rows.count) {
         return Err(Refusal::KeysFall(i + 1));
     }
-    if let Some(i) = first_broken(key, tail, count, unfit) {
+    if let Some(i) = first_broken(rows, rows.count, unfit) {
         return Err(Refusal::BrokenRun(i + 1));
     }
-    let Some(w) = windows::all_windows(n, count, cap, dur, key, tail, start, end, place, first)
-    else {
-        let i = first_overfull(n, count, cap, dur, key, tail, start, end, place, first);
+    let Some(w) = windows::all_windows(yard, rows, windows, rows.count) else {
+        let i = first_overfull(yard, rows, windows, rows.count);
         return Err(Refusal::Overfull(i));
     };
-    if !exchange_kept(key, tail, count) {
-        let i = first_barred(key, tail, count);
+    if !exchange_kept(rows, rows.count) {
+        let i = first_barred(rows, rows.count);
         return Err(Refusal::Barred(i));
     }
     Ok(w)

@@ -34,7 +34,7 @@ module _ {Y : Yard} (rules : YardRules Y) {rows : List Row} {t : ℕ} (W : WellF
     apart = run_apart t rules plan P;
   }
 
-module _ {b : Book} {C D F T H L : List ℕ} {n k : ℕ} {K X P S E I : List ℕ} {m : ℕ} (Q : Ready b C D F T H L n k K X P S E I m) where
+module _ {b : Book} {C D F T H L : List ℕ} {n k : ℕ} {K X : List ℕ} {count : ℕ} {P S E I : List ℕ} {m : ℕ} (Q : Ready b C D F T H L n k K X count P S E I m) where
   abbrev Y : Yard
   Y = yard_in C D n F T k
 
@@ -42,14 +42,14 @@ module _ {b : Book} {C D F T H L : List ℕ} {n k : ℕ} {K X P S E I : List ℕ
   rules = yard_rules Q.lanes.rules
 
   -- what the search asks of the rows in the arrays
-  pub room_there : (p t : ℕ) → p < Y.places → load (rows_in K X b.count) p t ≤ Y.cap p
+  pub room_there : (p t : ℕ) → p < Y.places → load (rows_in K X count) p t ≤ Y.cap p
   room_there p t h = subst (λ (rows : List Row). load rows p t ≤ Y.cap p) (sym Q.rows) (Q.formed.room p t h)
 
   module _ {start dest s : ℕ} {lab path : List ℕ} where
-    pub none_found : Routed Y (rows_in K X b.count) start dest s m D P S E lab path None → (other : List Stay) → Permitted Y (rows_of b) start dest s other → ⊥
+    pub none_found : Routed Y (rows_in K X count) start dest s m D P S E lab path None → (other : List Stay) → Permitted Y (rows_of b) start dest s other → ⊥
     none_found R other A = R.none other (subst (λ (rows : List Row). Permitted Y rows start dest s other) (sym Q.rows) A)
 
-    module _ {r : ℕ} (R : Routed Y (rows_in K X b.count) start dest s m D P S E lab path (Some r)) where
+    module _ {r : ℕ} (R : Routed Y (rows_in K X count) start dest s m D P S E lab path (Some r)) where
       abbrev plan : List Stay
       plan = plan_of D P lab (take r path)
 

@@ -9,6 +9,8 @@ use Rattle.rules.specs.Rows.{row}
 use Rattle.rules.specs.Book.{Counted}
 use Rattle.rules.specs.Gate.{Papers}
 use Rattle.rules.specs.Window.{Span}
+use Rattle.flat.specs.declared.Yard.{Yard as Arrays}
+use Rattle.flat.specs.declared.Rows.{Rows}
 
 -- ---- the map: capacity C and duration D of each place, from F and to T of each link
 
@@ -96,6 +98,17 @@ papers_in C D F T n k K X count next-ticket = record {
   yard = yard_in C D n F T k;
   rows = rows_in K X count;
 }
+
+-- what a yard's and a book's arrays hold, as they are lent together
+
+abbrev pub yard_held : Arrays → Yard
+yard_held y = yard_in y.cap y.dur y.places y.from y.to y.links
+
+abbrev pub rows_held : Rows → List Row
+rows_held r = rows_in r.key r.tail r.count
+
+abbrev pub papers_held : Arrays → Rows → Papers
+papers_held y r = papers_in y.cap y.dur y.from y.to y.places y.links r.key r.tail r.count r.next_ticket
 
 -- ---- windows: place P, first second S, end E
 

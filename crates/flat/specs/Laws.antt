@@ -1,6 +1,8 @@
 -- Laws of the arrays' views.
 use Rattle.std.specs.Prelude.{ℕ, zero, suc, ◌+◌, ◌≤◌, ◌<◌, ◌≡◌, refl, List, length}
 use Rattle.std.proofs.Common.{sym, ap, ◌∙◌, ⊎_elim, arith, eq-eqb, ne_eqb}
+use Rattle.std.specs.Array.{AllOfLen}
+use Rattle.std.proofs.lemmas.List.{get_or_past}
 use Rattle.laws.specs.Order.{lt_or_ge, eq_or_ne}
 use Rattle.laws.specs.Lists.{at, length_tabulate, get_or_tabulate}
 use Rattle.rules.specs.declared.Place.{Place}
@@ -98,3 +100,7 @@ last_is F p (suc k) = ⊎_elim (λ e. yes e) (λ e. no e (last_is F p k)) (eq_or
       leaves = I.leaves;
       none = λ j a b q. ⊎_elim (λ (c : j < k). I.none j a c q) (λ (c : k ≤ j). let z : j ≡ k = omega arith in e (ap (at F) (sym z) ∙ q)) (lt_or_ge j k);
     })
+
+-- an array that is made by default holds zeros
+pub blank : {P : ℕ → Type 0} {xs : List ℕ} {n : ℕ} → ((x : ℕ) → P x → x ≡ 0) → AllOfLen P xs n → (i : ℕ) → at xs i ≡ 0
+blank {xs = xs} {n = n} zero_is A i = ⊎_elim (λ (h : i < n). zero_is (at xs i) (A.at i 0 h)) (λ (h : n ≤ i). get_or_past xs i 0 (omega (arith, A.long))) (lt_or_ge i n)

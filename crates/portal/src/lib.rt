@@ -9,72 +9,39 @@ ghost use Rattle.rules.specs.Answer.{number, fault_row, answer_number, planned_a
 ghost use Rattle.rules.specs.Portal.{one_number, PortalPlan, PortalPage};
 ghost use Rattle.portal.specs.Read.{MapRead, BookRead};
 
+use flat::{Rows, Yard};
 use rules::{Book, Cursor, Place, Refusal, Shown, Trip};
 
-// What stands before a map slice's places and links.
-#[derive(Clone, Copy)]
-struct MapHead {
-    places: usize,
-    links: usize,
-}
-
-// What stands before a book slice's rows.
-#[derive(Clone, Copy)]
-struct BookHead {
-    count: usize,
-    ticket: u32,
-}
-
 // The places and links of a map slice in the arrays; no places, which no map has, where its counts don't give its length.
-fn read_map(
-    s: &[u8],
-    cap: &mut [u8; 256],
-    dur: &mut [u32; 256],
-    from: &mut [u8; 1024],
-    to: &mut [u8; 1024],
-) -> MapHead
-    requires cap_len { length cap.old ≡ 256 }
-    requires dur_len { length dur.old ≡ 256 }
-    requires from_len { length from.old ≡ 1024 }
-    requires to_len { length to.old ≡ 1024 }
-    ensures { MapRead s.now cap.new dur.new from.new to.new result.places result.links }
+fn read_map(s: &[u8], yard: &mut Yard)
+    ensures { MapRead s.now yard.new.cap yard.new.dur yard.new.from yard.new.to yard.new.places yard.new.links }
 {
     if !wire::map_shape(s) {
-        return MapHead {
-            places: 0,
-            links: 0,
-        };
+        yard.places = 0;
+        yard.links = 0;
+        return;
     }
     let n = wire::two(s, 0) as usize;
     let k = wire::two(s, 2) as usize;
-    wire::read_places(s, n, cap, dur);
-    wire::read_links(s, 4 + Place::BYTES * n, k, from, to);
-    MapHead {
-        places: n,
-        links: k,
-    }
+    wire::read_places(s, n, &mut yard.cap, &mut yard.dur);
+    wire::read_links(s, 4 + Place::BYTES * n, k, &mut yard.from, &mut yard.to);
+    yard.places = n;
+    yard.links = k;
 }
 
 // The rows of a book slice in the arrays; 1,025 rows, which no book has, where its count doesn't give its length.
-fn read_book(s: &[u8], key: &mut [u64; 1024], tail: &mut [u32; 1024]) -> BookHead
-    requires key_len { length key.old ≡ 1024 }
-    requires tail_len { length tail.old ≡ 1024 }
-    requires by_index { (i : ℕ) → at key.old i ≡ 0 }
-    ensures { BookRead s.now key.new tail.new result.count result.ticket }
+fn read_book(s: &[u8], rows: &mut Rows)
+    requires { (i : ℕ) → at rows.old.key i ≡ 0 }
+    ensures { BookRead s.now rows.new.key rows.new.tail rows.new.count rows.new.next_ticket }
 {
     if !wire::book_shape(s) {
-        return BookHead {
-            count: Book::UNREAD,
-            ticket: 0,
-        };
+        rows.count = Book::UNREAD;
+        rows.next_ticket = 0;
+        return;
     }
-    let t = wire::three(s, 0);
-    let n = wire::two(s, 3) as usize;
-    wire::read_rows(s, n, key, tail);
-    BookHead {
-        count: n,
-        ticket: t,
-    }
+    rows.next_ticket = wire::three(s, 0);
+    rows.count = wire::two(s, 3) as usize;
+    wire::read_rows(s, rows.count, &mut rows.key, &mut rows.tail);
 }
 
 // A refusal as one number: its own, and the row that it names.
@@ -119,30 +86,11 @@ pub extern "C" fn lanebook_plan(
 ) -> u64
     ensures { PortalPlan map.now book.now start destination second answer.old answer.new result }
 {
-    let mut cap = [0u8; 256];
-    let mut dur = [0u32; 256];
-    let mut from = [0u8; 1024];
-    let mut to = [0u8; 1024];
-    let m = read_map(map, &mut cap, &mut dur, &mut from, &mut to);
-    let mut key = [0u64; 1024];
-    let mut tail = [0u32; 1024];
-    let b = read_book(book, &mut key, &mut tail);
-    let p = desk::plan_flat(
-        m.places,
-        m.links,
-        &cap,
-        &dur,
-        &from,
-        &to,
-        b.count,
-        b.ticket,
-        &key,
-        &tail,
-        start,
-        destination,
-        second,
-        answer,
-    );
+    let mut yard = Yard::default();
+    let mut rows = Rows::default();
+    read_map(map, &mut yard);
+    read_book(book, &mut rows);
+    let p = desk::plan_flat(&yard, &rows, start, destination, second, answer);
     packed_plan(p)
 }
 
@@ -159,21 +107,15 @@ pub extern "C" fn lanebook_page(
 ) -> u64
     ensures { PortalPage map.now book.now size (record { place = place; entry = entry; ticket = ticket }) answer.old answer.new result }
 {
-    let mut cap = [0u8; 256];
-    let mut dur = [0u32; 256];
-    let mut from = [0u8; 1024];
-    let mut to = [0u8; 1024];
-    let m = read_map(map, &mut cap, &mut dur, &mut from, &mut to);
-    let mut key = [0u64; 1024];
-    let mut tail = [0u32; 1024];
-    let b = read_book(book, &mut key, &mut tail);
+    let mut yard = Yard::default();
+    let mut rows = Rows::default();
+    read_map(map, &mut yard);
+    read_book(book, &mut rows);
     let c = Cursor {
         place: place,
         entry: entry,
         ticket: ticket,
     };
-    let p = paging::page_flat(
-        m.places, m.links, &cap, &dur, &from, &to, b.count, b.ticket, &key, &tail, size, c, answer,
-    );
+    let p = paging::page_flat(&yard, &rows, size, c, answer);
     packed_page(p)
 }

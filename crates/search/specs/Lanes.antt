@@ -9,7 +9,11 @@ use Rattle.rules.specs.declared.Link.{Link}
 use Rattle.rules.specs.Map.{Yard, MapRules}
 use Rattle.rules.specs.Window.{Window}
 use Rattle.lanes.specs.Nodes.{Windows, mono, later}
-use Rattle.flat.specs.Flat.{places_in, links_in, yard_in, Of, Chained, rows_in, span_at, Grouped}
+use Rattle.flat.specs.declared.Yard.{Yard as Arrays}
+use Rattle.flat.specs.declared.Ways.{Ways}
+use Rattle.flat.specs.declared.Rows.{Rows}
+use Rattle.flat.specs.declared.Windows.{Windows as WindowArrays}
+use Rattle.flat.specs.Flat.{places_in, links_in, yard_in, Of, Chained, rows_in, span_at, Grouped, rows_held}
 use Rattle.flat.specs.Laws.{places_long, place_in, links_long, link_in, yard_of}
 use Rattle.flat.specs.Links.{group_end}
 use Rattle.lookup.specs.Crossings.{Kept}
@@ -26,6 +30,10 @@ pub record Lanes (C D F T H N : List ℕ) (n k : ℕ) (rows : List Row) (c : ℕ
   pub windows : Windows (yard_in C D n F T k) rows m (span_at P S E)
   pub by_place : Grouped (at P) I n m
   pub few : m ≤ 1280
+
+-- the same of what is lent together
+abbrev pub LanesHeld : Arrays → Ways → Rows → WindowArrays → Type 0
+LanesHeld y u r w = Lanes y.cap y.dur y.from y.to u.head u.chain y.places y.links (rows_held r) r.count w.place w.start w.end w.first w.count
 
 -- window v is one of the destination
 abbrev pub is_at_dest : List ℕ → ℕ → ℕ → Bool

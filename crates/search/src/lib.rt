@@ -3,34 +3,28 @@
 
 ghost use Rattle.std.specs.Prelude.{◌≡◌, true, false, ℕ, ◌+◌, ◌-◌, ◌≤◌, ◌<◌, min, max, length};
 ghost use Rattle.laws.specs.Lists.{at};
-ghost use Rattle.flat.specs.Flat.{rows_in, yard_in};
+ghost use Rattle.flat.specs.Flat.{rows_held, yard_held};
 ghost use Rattle.settle.specs.Blocks.{Blocks};
 ghost use Rattle.lookup.specs.Crossings.{Kept, Between};
 ghost use Rattle.search.specs.Entries.{FirstClear};
 ghost use Rattle.search.specs.Offers.{Row1, Labels, Tried, OfferedTo, OpenFrom, BeginsAt};
 ghost use Rattle.settle.specs.Search.{Answer, Rooted};
 ghost use Rattle.search.specs.Relax.{Ground, Relaxed, next_by};
-ghost use Rattle.search.specs.Lanes.{Lanes, is_at_dest};
+ghost use Rattle.search.specs.Lanes.{LanesHeld, is_at_dest};
 ghost use Rattle.search.specs.Trail.{Trailed};
 
+use flat::{Rows, Ways, Windows, Yard};
+
 // The least second of lo to hi at which the crossing is not barred. Most often it is the first.
-fn first_entry(
-    key: &[u64; 1024],
-    tail: &[u32; 1024],
-    n: usize,
-    q: u8,
-    p: u8,
-    lo: u32,
-    hi: u32,
-) -> Option<u32>
-    requires between { Between key.now tail.now n q p }
+fn first_entry(rows: &Rows, q: u8, p: u8, lo: u32, hi: u32) -> Option<u32>
+    requires between { Between rows.now.key rows.now.tail rows.now.count q p }
     requires hi_bound { hi ≤ 86400 }
-    ensures { FirstClear (rows_in key.now tail.now n) q p lo hi result }
+    ensures { FirstClear (rows_held rows.now) q p lo hi result }
 {
     if lo > hi {
         return None;
     }
-    if !lookup::barred(key, tail, n, q, p, lo) {
+    if !lookup::barred(rows, rows.count, q, p, lo) {
         return Some(lo);
     }
     let mut t = lo + 1;
@@ -39,7 +33,7 @@ fn first_entry(
         if t > hi {
             break 'window None;
         }
-        if !lookup::barred(key, tail, n, q, p, t) {
+        if !lookup::barred(rows, rows.count, q, p, t) {
             break Some(t);
         }
         t += 1;
@@ -48,9 +42,7 @@ fn first_entry(
 
 // Window v, to be entered from lo to hi, offered the way through w.
 fn try_window(
-    key: &[u64; 1024],
-    tail: &[u32; 1024],
-    n: usize,
+    rows: &Rows,
     q: u8,
     p: u8,
     lo: u32,
@@ -62,15 +54,15 @@ fn try_window(
     least: &mut [u32; 40],
     before: &mut [u16; 1280],
 )
-    requires between { Between key.now tail.now n q p }
+    requires between { Between rows.now.key rows.now.tail rows.now.count q p }
     requires hi_bound { hi ≤ 86400 }
     requires v_bound { (v < 1280) × (w < 1280) }
     requires labels { Labels label.old live.old before.old }
     requires blocks { Blocks live.old least.old }
-    ensures { Tried (rows_in key.now tail.now n) q p lo hi v w label.old live.old before.old label.new live.new before.new × (Labels label.new live.new before.new × Blocks live.new least.new) }
+    ensures { Tried (rows_held rows.now) q p lo hi v w label.old live.old before.old label.new live.new before.new × (Labels label.new live.new before.new × Blocks live.new least.new) }
 {
     if lo < label[v] {
-        if let Some(t) = first_entry(key, tail, n, q, p, lo, hi) {
+        if let Some(t) = first_entry(rows, q, p, lo, hi) {
             settle::offer(label, live, least, before, v, w, t);
         }
     }
@@ -87,11 +79,8 @@ fn first_open(end: &[u32; 1280], a: usize, b: usize, x: u32) -> usize
 
 // Windows a .. b of place q, of duration d, offered the way through w, which p may be left for from `soonest` to `leave`.
 fn relax_place(
-    start: &[u32; 1280],
-    end: &[u32; 1280],
-    key: &[u64; 1024],
-    tail: &[u32; 1024],
-    n: usize,
+    rows: &Rows,
+    windows: &Windows,
     a: usize,
     b: usize,
     q: u8,
@@ -105,34 +94,30 @@ fn relax_place(
     least: &mut [u32; 40],
     before: &mut [u16; 1280],
 )
-    requires between { Between key.now tail.now n q p }
+    requires between { Between rows.now.key rows.now.tail rows.now.count q p }
     requires a_le_b { (a ≤ b) × (b ≤ 1280) × (w < 1280) }
     requires d_bound { (d ≤ 3600) × (soonest ≤ 90000) × (leave ≤ 86400) }
-    requires row1 { Row1 start.now end.now a b d }
+    requires row1 { Row1 windows.now.start windows.now.end a b d }
     requires labels { Labels label.old live.old before.old }
     requires blocks { Blocks live.old least.old }
-    ensures { OfferedTo (rows_in key.now tail.now n) q p soonest leave d start.now end.now a b w label.old live.old before.old b label.new live.new before.new × (Labels label.new live.new before.new × Blocks live.new least.new) }
+    ensures { OfferedTo (rows_held rows.now) q p soonest leave d windows.now.start windows.now.end a b w label.old live.old before.old b label.new live.new before.new × (Labels label.new live.new before.new × Blocks live.new least.new) }
 {
-    for v in first_open(end, a, b, soonest + d)..b {
-        let from = start[v];
+    for v in first_open(&windows.end, a, b, soonest + d)..b {
+        let from = windows.start[v];
         if from > leave {
             return;
         }
         let lo = soonest.max(from);
-        let hi = leave.min(end[v] - d);
-        try_window(key, tail, n, q, p, lo, hi, v, w, label, live, least, before);
+        let hi = leave.min(windows.end[v] - d);
+        try_window(rows, q, p, lo, hi, v, w, label, live, least, before);
     }
 }
 
 // The windows of place q offered the way through w.
 fn relax_link(
-    dur: &[u32; 256],
-    first: &[u16; 257],
-    start: &[u32; 1280],
-    end: &[u32; 1280],
-    key: &[u64; 1024],
-    tail: &[u32; 1024],
-    n: usize,
+    yard: &Yard,
+    rows: &Rows,
+    windows: &Windows,
     q: u8,
     p: u8,
     soonest: u32,
@@ -143,133 +128,101 @@ fn relax_link(
     least: &mut [u32; 40],
     before: &mut [u16; 1280],
 )
-    requires between { Between key.now tail.now n q p × (w < 1280) × (soonest ≤ 90000) × (leave ≤ 86400) }
-    requires q_bound { (at first.now q ≤ at first.now (q + 1)) × (at first.now (q + 1) ≤ 1280) × (at dur.now q ≤ 3600) }
-    requires row1 { Row1 start.now end.now (at first.now q) (at first.now (q + 1)) (at dur.now q) }
+    requires between { Between rows.now.key rows.now.tail rows.now.count q p × (w < 1280) × (soonest ≤ 90000) × (leave ≤ 86400) }
+    requires q_bound { (at windows.now.first q ≤ at windows.now.first (q + 1)) × (at windows.now.first (q + 1) ≤ 1280) × (at yard.now.dur q ≤ 3600) }
+    requires row1 { Row1 windows.now.start windows.now.end (at windows.now.first q) (at windows.now.first (q + 1)) (at yard.now.dur q) }
     requires labels { Labels label.old live.old before.old }
     requires blocks { Blocks live.old least.old }
-    ensures { OfferedTo (rows_in key.now tail.now n) q p soonest leave (at dur.now q) start.now end.now (at first.now q) (at first.now (q + 1)) w label.old live.old before.old (at first.now (q + 1)) label.new live.new before.new × (Labels label.new live.new before.new × Blocks live.new least.new) }
+    ensures { OfferedTo (rows_held rows.now) q p soonest leave (at yard.now.dur q) windows.now.start windows.now.end (at windows.now.first q) (at windows.now.first (q + 1)) w label.old live.old before.old (at windows.now.first (q + 1)) label.new live.new before.new × (Labels label.new live.new before.new × Blocks live.new least.new) }
 {
     let i = q as usize;
-    let a = first[i] as usize;
-    let b = first[i + 1] as usize;
-    let d = dur[i];
+    let a = windows.first[i] as usize;
+    let b = windows.first[i + 1] as usize;
+    let d = yard.dur[i];
     relax_place(
-        start, end, key, tail, n, a, b, q, p, d, soonest, leave, w, label, live, least, before,
+        rows, windows, a, b, q, p, d, soonest, leave, w, label, live, least, before,
     );
 }
 
 // The way through window w of place p offered to every window that a link of p leads to.
 fn relax(
-    places: usize,
-    links: usize,
-    windows: usize,
-    dur: &[u32; 256],
-    from: &[u8; 1024],
-    to: &[u8; 1024],
-    head: &[u16; 256],
-    chain: &[u16; 1024],
-    place: &[u8; 1280],
-    start: &[u32; 1280],
-    end: &[u32; 1280],
-    first: &[u16; 257],
-    key: &[u64; 1024],
-    tail: &[u32; 1024],
-    n: usize,
+    yard: &Yard,
+    ways: &Ways,
+    rows: &Rows,
+    windows: &Windows,
     w: usize,
     label: &mut [u32; 1280],
     live: &mut [u32; 1280],
     least: &mut [u32; 40],
     before: &mut [u16; 1280],
 )
-    requires ground { Ground places links windows dur.now from.now to.now head.now chain.now place.now start.now end.now first.now }
-    requires w_lt_windows { (w < windows) × (at label.old w ≤ 86400) × Kept key.now tail.now n }
+    requires ground { Ground yard.now.places yard.now.links windows.now.count yard.now.dur yard.now.from yard.now.to ways.now.head ways.now.chain windows.now.place windows.now.start windows.now.end windows.now.first }
+    requires w_lt_windows { (w < windows.now.count) × (at label.old w ≤ 86400) × Kept rows.now.key rows.now.tail rows.now.count }
     requires labels { Labels label.old live.old before.old }
     requires blocks { Blocks live.old least.old }
-    ensures { Relaxed (rows_in key.now tail.now n) places links windows dur.now from.now to.now place.now start.now end.now w label.old live.old before.old label.new live.new before.new × (Labels label.new live.new before.new × Blocks live.new least.new) }
+    ensures { Relaxed (rows_held rows.now) yard.now.places yard.now.links windows.now.count yard.now.dur yard.now.from yard.now.to windows.now.place windows.now.start windows.now.end w label.old live.old before.old label.new live.new before.new × (Labels label.new live.new before.new × Blocks live.new least.new) }
 {
-    let p = place[w];
+    let p = windows.place[w];
     let here = p as usize;
-    let soonest = label[w] + dur[here];
-    let leave = end[w];
+    let soonest = label[w] + yard.dur[here];
+    let leave = windows.end[w];
     // the links of p by number, from its last to its first; 0 ends them
-    let mut cur = head[here] as usize;
+    let mut cur = ways.head[here] as usize;
     while cur > 0 {
         let j = cur - 1;
-        let q = to[j];
+        let q = yard.to[j];
         relax_link(
-            dur, first, start, end, key, tail, n, q, p, soonest, leave, w, label, live, least,
-            before,
+            yard, rows, windows, q, p, soonest, leave, w, label, live, least, before,
         );
-        cur = chain[j] as usize;
+        cur = ways.chain[j] as usize;
     }
 }
 
 // The window of the destination of least entry, of those the first, with labels and windows before; none where no window of it is reached.
 pub fn search(
-    places: usize,
-    links: usize,
-    windows: usize,
-    cap: &[u8; 256],
-    dur: &[u32; 256],
-    from: &[u8; 1024],
-    to: &[u8; 1024],
-    head: &[u16; 256],
-    chain: &[u16; 1024],
-    place: &[u8; 1280],
-    start: &[u32; 1280],
-    end: &[u32; 1280],
-    first: &[u16; 257],
-    key: &[u64; 1024],
-    tail: &[u32; 1024],
-    n: usize,
+    yard: &Yard,
+    ways: &Ways,
+    rows: &Rows,
+    windows: &Windows,
     src: usize,
     s: u32,
     dest: usize,
     label: &mut [u32; 1280],
     before: &mut [u16; 1280],
 ) -> Option<usize>
-    requires lanes { Lanes cap.now dur.now from.now to.now head.now chain.now places links (rows_in key.now tail.now n) n place.now start.now end.now first.now windows }
-    requires src_lt_windows { (src < windows) × (s < 86401) }
+    requires lanes { LanesHeld yard.now ways.now rows.now windows.now }
+    requires src_lt_windows { (src < windows.now.count) × (s < 86401) }
     requires by_index { (v : ℕ) → v < 1280 → at label.old v ≡ 86401 }
     requires src_value { at before.old src ≡ 0 }
     requires label_len { (length label.old ≡ 1280) × (length before.old ≡ 1280) }
-    ensures { Answer windows (next_by (yard_in cap.now dur.now places from.now to.now links) (rows_in key.now tail.now n) place.now start.now end.now) (is_at_dest place.now dest) src s label.new before.new result }
+    ensures { Answer windows.now.count (next_by (yard_held yard.now) (rows_held rows.now) windows.now.place windows.now.start windows.now.end) (is_at_dest windows.now.place dest) src s label.new before.new result }
 {
-    let blocks = (windows + 31) / 32;
+    let blocks = (windows.count + 31) / 32;
     let mut live = [86401u32; 1280];
     let mut least = [86401u32; 40];
     label[src] = s;
     live[src] = s;
     least[src / 32] = s;
     while let Some(w) = settle::pick(&live, &least, blocks) {
-        if place[w] as usize == dest {
+        if windows.place[w] as usize == dest {
             return Some(w);
         }
         settle::close(&mut live, &mut least, w);
         relax(
-            places, links, windows, dur, from, to, head, chain, place, start, end, first, key,
-            tail, n, w, label, &mut live, &mut least, before,
+            yard, ways, rows, windows, w, label, &mut live, &mut least, before,
         );
     }
     None
 }
 
 // The window of a .. b that may be entered at s for d seconds.
-pub fn begin_at(
-    start: &[u32; 1280],
-    end: &[u32; 1280],
-    a: usize,
-    b: usize,
-    s: u32,
-    d: u32,
-) -> Option<usize>
+pub fn begin_at(windows: &Windows, a: usize, b: usize, s: u32, d: u32) -> Option<usize>
     requires a_le_b { (a ≤ b) × (b ≤ 1280) × (s ≤ 86400) × (d ≤ 3600) }
-    requires row1 { Row1 start.now end.now a b d }
-    ensures { BeginsAt start.now end.now a b s d result }
+    requires row1 { Row1 windows.now.start windows.now.end a b d }
+    ensures { BeginsAt windows.now.start windows.now.end a b s d result }
 {
-    let w = first_open(end, a, b, s + d);
-    if w < b && start[w] <= s {
+    let w = first_open(&windows.end, a, b, s + d);
+    if w < b && windows.start[w] <= s {
         Some(w)
     } else {
         None

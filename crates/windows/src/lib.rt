@@ -7,6 +7,7 @@ ghost use Rattle.flat.specs.Flat.{entry_of, span_at};
 ghost use Rattle.windows.specs.Sweep.{run_load, Sweepable, Sweep, LeastAt};
 ghost use Rattle.windows.specs.Places.{Past, Given, AllWindows};
 
+use flat::{Rows, Windows, Yard};
 use rules::Map;
 
 fn entry_of(k: u64) -> u32
@@ -98,35 +99,36 @@ fn past(key: &[u64; 1024], count: usize, a: usize, p: usize) -> usize
 }
 
 // The free windows of the places 0 .. n, place after place, and the first window of each: the number of windows, None where a place is overfull.
-pub fn all_windows(
-    n: usize,
-    count: usize,
-    cap: &[u8; 256],
-    dur: &[u32; 256],
-    key: &[u64; 1024],
-    tail: &[u32; 1024],
-    start: &mut [u32; 1280],
-    end: &mut [u32; 1280],
-    place: &mut [u8; 1280],
-    first: &mut [u16; 257],
-) -> Option<usize>
-    requires given { Given n count cap.now dur.now key.now tail.now }
-    requires start_len { length start.old ≡ 1280 }
-    requires end_len { length end.old ≡ 1280 }
-    requires place_len { length place.old ≡ 1280 }
-    requires first_len { length first.old ≡ 257 }
-    ensures { AllWindows n count cap.now dur.now key.now tail.now result start.new end.new place.new first.new }
+pub fn all_windows(yard: &Yard, rows: &Rows, windows: &mut Windows, count: usize) -> Option<usize>
+    requires given { Given yard.now.places count yard.now.cap yard.now.dur rows.now.key rows.now.tail }
+    requires start_len { length windows.old.start ≡ 1280 }
+    requires end_len { length windows.old.end ≡ 1280 }
+    requires place_len { length windows.old.place ≡ 1280 }
+    requires first_len { length windows.old.first ≡ 257 }
+    ensures { AllWindows yard.now.places count yard.now.cap yard.now.dur rows.now.key rows.now.tail result windows.new.start windows.new.end windows.new.place windows.new.first }
 {
-    first[0] = 0;
+    windows.first[0] = 0;
     let mut a: usize = 0;
     let mut w: usize = 0;
-    for p in 0..n {
-        let b = past(key, count, a, p);
-        let c = cap[p] as usize;
-        let d = dur[p];
-        w = sweep(key, tail, a, b, c, d, p as u8, w, start, end, place)?;
+    for p in 0..yard.places {
+        let b = past(&rows.key, count, a, p);
+        let c = yard.cap[p] as usize;
+        let d = yard.dur[p];
+        w = sweep(
+            &rows.key,
+            &rows.tail,
+            a,
+            b,
+            c,
+            d,
+            p as u8,
+            w,
+            &mut windows.start,
+            &mut windows.end,
+            &mut windows.place,
+        )?;
         a = b;
-        first[p + 1] = w as u16;
+        windows.first[p + 1] = w as u16;
     }
     Some(w)
 }

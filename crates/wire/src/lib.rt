@@ -12,6 +12,7 @@ ghost use Rattle.wire.specs.Written.{PutAt};
 ghost use Rattle.wire.specs.Reading.{KeyRead, TailRead, PlacesOf, LinksOf, RowsOf};
 ghost use Rattle.wire.specs.Slices.{MapShape, BookShape};
 
+use flat::Rows;
 use rules::{Book, Link, Map, Place, Row};
 
 // A row over the first bytes of a slice.
@@ -38,13 +39,13 @@ pub fn put_at(r: Row, j: usize, out: &mut [u8])
 }
 
 // The row at an index of the arrays.
-pub fn row_at(key: &[u64; 1024], tail: &[u32; 1024], i: usize) -> Row
+pub fn row_at(rows: &Rows, i: usize) -> Row
     requires i_lt_row_limit { i < row_limit }
-    requires i_bound { at key.now i < key_limit }
-    ensures { result ≡ row_of (at key.now i) (at tail.now i) }
+    requires i_bound { at rows.now.key i < key_limit }
+    ensures { result ≡ row_of (at rows.now.key i) (at rows.now.tail i) }
 {
-    let k = key[i];
-    let x = tail[i];
+    let k = rows.key[i];
+    let x = rows.tail[i];
     let entry = (k / flat::SECOND % flat::SECOND) as u32;
     let ticket = (k % flat::SECOND) as u32;
     Row::new(
@@ -57,14 +58,14 @@ pub fn row_at(key: &[u64; 1024], tail: &[u32; 1024], i: usize) -> Row
 }
 
 // The n rows of the arrays from an index on, as records.
-pub fn copy_rows(key: &[u64; 1024], tail: &[u32; 1024], from: usize, n: usize, out: &mut [u8])
+pub fn copy_rows(rows: &Rows, from: usize, n: usize, out: &mut [u8])
     requires n_bound { from + n ≤ row_limit }
     requires n_in_bounds { row_size * n ≤ length out.old }
-    requires packed { Packed key.now }
-    ensures { out.new ≡ written (rows_for key.now tail.now from n) out.old }
+    requires packed { Packed rows.now.key }
+    ensures { out.new ≡ written (rows_for rows.now.key rows.now.tail from n) out.old }
 {
     for j in 0..n {
-        put_at(row_at(key, tail, from + j), j, out);
+        put_at(row_at(rows, from + j), j, out);
     }
 }
 

@@ -12,6 +12,6 @@ loop-j-preserved c =
     let j = c.in-Some.j in
     let e = rw (c.next_of-q.ensures.0, c.exit_of-t.ensures.0) at c.in-Some.ensures.1 in (
       omega (arith, c.requires.chains.links j, c.in-Some.ensures.0),
-      ahead_after a.chain.now (Follows a.key.now a.tail.now a.i) (NotBelow a.key.now a.tail.now a.rank.now a.i) _ l.from j l.invariant.1 (λ k z. z.follows) e
+      ahead_after a.chain.now (Follows a.rows.now.key a.rows.now.tail a.i) (NotBelow a.rows.now.key a.rows.now.tail a.rank.now a.i) _ l.from j l.invariant.1 (λ k z. z.follows) e
           (λ z. omega (arith, z.not_below, c.if-rank-j.false)),
     )

@@ -8,43 +8,43 @@ use Rattle.bookfit.proofs.book_fits.Goals as goal
 use Rattle.bookfit.proofs.book_fits.Goals.{In_ok-unfit, In_default, In_default-first_broken}
 
 -- past each check, what is known of the book
-numbered : (c : In_ok-unfit) → Numbered c.args.cap.now c.args.dur.now c.args.n c.args.from.now c.args.to.now c.args.k c.args.key.now c.args.tail.now c.args.count c.args.next_ticket
+numbered : (c : In_ok-unfit) → Numbered c.args.yard.now.cap c.args.yard.now.dur c.args.yard.now.places c.args.yard.now.from c.args.yard.now.to c.args.yard.now.links c.args.rows.now.key c.args.rows.now.tail c.args.rows.now.count c.args.rows.now.next_ticket
 numbered c = record {
   rules = c.requires.map_rules;
-  few = omega (arith, c.if-count-gt-ROWS.false);
-  ticket_from = omega (arith, c.if-next_ticket-lt1.false);
-  ticket_to = omega (arith, c.if-next_ticket-gt-TICKETS.false);
+  few = omega (arith, c.if-rows-gt-ROWS.false);
+  ticket_from = omega (arith, c.if-rows-lt1.false);
+  ticket_to = omega (arith, c.if-rows-gt-TICKETS.false);
   within = c.in_ok-unfit.ensures.within;
 }
 
-ordered : (c : In_default) → Ordered c.args.cap.now c.args.dur.now c.args.n c.args.from.now c.args.to.now c.args.k c.args.key.now c.args.tail.now c.args.count c.args.next_ticket
+ordered : (c : In_default) → Ordered c.args.yard.now.cap c.args.yard.now.dur c.args.yard.now.places c.args.yard.now.from c.args.yard.now.to c.args.yard.now.links c.args.rows.now.key c.args.rows.now.tail c.args.rows.now.count c.args.rows.now.next_ticket
 ordered c = record { numbered = numbered (goal.at.In_default c).In_ok-unfit; rises = c.in_default.ensures }
 
-running : (c : In_default-first_broken) → Running c.args.cap.now c.args.dur.now c.args.n c.args.from.now c.args.to.now c.args.k c.args.key.now c.args.tail.now c.args.count c.args.next_ticket
+running : (c : In_default-first_broken) → Running c.args.yard.now.cap c.args.yard.now.dur c.args.yard.now.places c.args.yard.now.from c.args.yard.now.to c.args.yard.now.links c.args.rows.now.key c.args.rows.now.tail c.args.rows.now.count c.args.rows.now.next_ticket
 running c = record {
   ordered = ordered (goal.at.In_default-first_broken c).In_default;
-  runs = c.in_default-first_broken.ensures c.args.n c.args.k c.args.dur.now c.args.from.now c.args.to.now c.in_ok-unfit.ensures.lowest;
+  runs = c.in_default-first_broken.ensures c.args.yard.now.places c.args.yard.now.links c.args.yard.now.dur c.args.yard.now.from c.args.yard.now.to c.in_ok-unfit.ensures.lowest;
 }
 
-pub returns-then-count-gt-ROWS : goal.returns-then-count-gt-ROWS
-returns-then-count-gt-ROWS c =
-    book_many (omega (arith, c.if-count-gt-ROWS.true))
+pub returns-then-rows-gt-ROWS : goal.returns-then-rows-gt-ROWS
+returns-then-rows-gt-ROWS c =
+    book_many (omega (arith, c.if-rows-gt-ROWS.true))
 
-pub returns-then-next_ticket-lt1 : goal.returns-then-next_ticket-lt1
-returns-then-next_ticket-lt1 c =
-    book_ticket (λ a b. omega (arith, c.if-next_ticket-lt1.true))
+pub returns-then-rows-lt1 : goal.returns-then-rows-lt1
+returns-then-rows-lt1 c =
+    book_ticket (λ a b. omega (arith, c.if-rows-lt1.true))
 
-pub returns-then-next_ticket-gt-TICKETS : goal.returns-then-next_ticket-gt-TICKETS
-returns-then-next_ticket-gt-TICKETS c =
-    book_ticket (λ a b. omega (arith, c.if-next_ticket-gt-TICKETS.true))
+pub returns-then-rows-gt-TICKETS : goal.returns-then-rows-gt-TICKETS
+returns-then-rows-gt-TICKETS c =
+    book_ticket (λ a b. omega (arith, c.if-rows-gt-TICKETS.true))
 
 pub least_unfit-requires-clause-k_bound : goal.least_unfit-requires-clause-k_bound
 least_unfit-requires-clause-k_bound c =
-    few_links c.args.cap.now c.args.dur.now c.args.n c.args.from.now c.args.to.now c.args.k c.requires.map_rules
+    few_links c.args.yard.now.cap c.args.yard.now.dur c.args.yard.now.places c.args.yard.now.from c.args.yard.now.to c.args.yard.now.links c.requires.map_rules
 
 pub least_unfit-requires-clause-on_map : goal.least_unfit-requires-clause-on_map
 least_unfit-requires-clause-on_map c =
-    links_on c.args.cap.now c.args.dur.now c.args.n c.args.from.now c.args.to.now c.args.k c.requires.map_rules
+    links_on c.args.yard.now.cap c.args.yard.now.dur c.args.yard.now.places c.args.yard.now.from c.args.yard.now.to c.args.yard.now.links c.requires.map_rules
 
 pub returns-in_err-unfit : goal.returns-in_err-unfit
 returns-in_err-unfit c =
@@ -58,13 +58,13 @@ overflow_add-result c =
 
 pub returns-in-Some : goal.returns-in-Some
 returns-in-Some c =
-    book_falls (numbered (goal.at.returns-in-Some c).In_ok-unfit) (c.in-Some.ensures c.args.tail.now)
+    book_falls (numbered (goal.at.returns-in-Some c).In_ok-unfit) (c.in-Some.ensures c.args.rows.now.tail)
 
 pub returns-in-Some-first_broken : goal.returns-in-Some-first_broken
 returns-in-Some-first_broken c =
     let a = c.args in
     book_broken (ordered (goal.at.returns-in-Some-first_broken c).In_default)
-    (c.in-Some-first_broken.ensures a.n a.k a.dur.now a.from.now a.to.now c.in_ok-unfit.ensures.lowest)
+    (c.in-Some-first_broken.ensures a.yard.now.places a.yard.now.links a.yard.now.dur a.yard.now.from a.yard.now.to c.in_ok-unfit.ensures.lowest)
 
 pub all_windows-requires-clause-given : goal.all_windows-requires-clause-given
 all_windows-requires-clause-given c =

@@ -11,8 +11,8 @@ use Rattle.bookfit.proofs.candidates.Goals.{then-entered_after+then-not-is_last,
 pub loop-i-preserved : goal.loop-i-preserved
 loop-i-preserved c =
     let l = c.loop-i in
-    let K = c.args.key.now in
-    let X = c.args.tail.now in
+    let K = c.args.rows.now.key in
+    let X = c.args.rows.now.tail in
     let P = Candidate K X c.args.count in
     let e = rw (c.place_of.ensures, c.exit_of.ensures.0) at c.entered_after.ensures.1 in
     elim c.if-entered_after.branch [

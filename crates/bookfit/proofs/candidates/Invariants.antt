@@ -3,4 +3,4 @@ use Rattle.bookfit.specs.Ring.{Candidate, Listed}
 use Rattle.bookfit.proofs.candidates.Given as goal
 
 abbrev pub invariant-loop-i : goal.invariant-loop-i
-invariant-loop-i l = Listed (Candidate l.key l.tail l.count) l.key l.tail l.i l.list l.m
+invariant-loop-i l = Listed (Candidate l.rows.key l.rows.tail l.count) l.rows.key l.rows.tail l.i l.list l.m

@@ -9,4 +9,4 @@ loop-x-preserved c =
     let h = c.leave_slot-h.ensures in
     let slot = rw (c.place_of.ensures, c.exit_of.ensures.0) at h.0 in
     let t = taken_at c.args.list.now c.args.m l.x-index c.loop-x-test.true in
-    filed_next c.args.key.now c.args.tail.now c.requires.listed l.x-index l.head l.chain c.requires.keyed.few l.invariant t.0 _ _ t.1 slot h.1
+    filed_next c.args.rows.now.key c.args.rows.now.tail c.requires.listed l.x-index l.head l.chain c.requires.keyed.few l.invariant t.0 _ _ t.1 slot h.1

@@ -3,4 +3,4 @@ use Rattle.bookfit.specs.Filed.{Filed}
 use Rattle.bookfit.proofs.file_rows.Given as goal
 
 abbrev pub invariant-loop-x : goal.invariant-loop-x
-invariant-loop-x l = Filed l.key l.tail l.list l.m l.x-index l.head l.chain
+invariant-loop-x l = Filed l.rows.key l.rows.tail l.list l.m l.x-index l.head l.chain

@@ -5,7 +5,7 @@ use Rattle.bookfit.specs.Prefix.{Narrowed}
 use Rattle.bookfit.proofs.first_barred.Given as goal
 
 abbrev pub invariant-loop-bad : goal.invariant-loop-bad
-invariant-loop-bad l = Narrowed Unbarred l.key l.tail l.count l.good l.bad
+invariant-loop-bad l = Narrowed Unbarred l.rows.key l.rows.tail l.count l.good l.bad
 
 abbrev pub decreases-loop-bad : goal.decreases-loop-bad
 decreases-loop-bad l = l.bad - l.good

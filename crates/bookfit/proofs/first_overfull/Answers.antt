@@ -7,7 +7,7 @@ use Rattle.bookfit.proofs.first_overfull.Goals as goal
 pub loop-bad-init : goal.loop-bad-init
 loop-bad-init c =
     let a = c.args in
-    (narrowed_start (Capped a.n a.cap.now) a.key.now a.tail.now _ (capped_inherited a.n a.cap.now) c.requires.fact, c.requires.lent)
+    (narrowed_start (Capped a.yard.now.places a.yard.now.cap) a.rows.now.key a.rows.now.tail _ (capped_inherited a.yard.now.places a.yard.now.cap) c.requires.fact, c.requires.lent)
 
 pub all_windows-requires-clause-given : goal.all_windows-requires-clause-given
 all_windows-requires-clause-given c =
@@ -17,4 +17,4 @@ all_windows-requires-clause-given c =
 pub returns : goal.returns
 returns c =
     let a = c.args in
-    narrowed_end (Capped a.n a.cap.now) a.key.now a.tail.now _ c.loop-bad.invariant.0 (omega arith)
+    narrowed_end (Capped a.yard.now.places a.yard.now.cap) a.rows.now.key a.rows.now.tail _ c.loop-bad.invariant.0 (omega arith)

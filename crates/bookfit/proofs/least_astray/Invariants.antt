@@ -4,4 +4,4 @@ use Rattle.bookfit.specs.Marks.{Takes}
 use Rattle.bookfit.proofs.least_astray.Given as goal
 
 abbrev pub invariant-loop-i : goal.invariant-loop-i
-invariant-loop-i l = Takes (at l.key) (at l.tail) l.count l.i l.taken l.low
+invariant-loop-i l = Takes (at l.rows.key) (at l.rows.tail) l.count l.i l.taken l.low

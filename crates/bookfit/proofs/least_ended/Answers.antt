@@ -17,8 +17,8 @@ loop-i-init c =
 pub loop-i-preserved : goal.loop-i-preserved
 loop-i-preserved c =
     let l = c.loop-i in
-    let K = at c.args.key.now in
-    let X = at c.args.tail.now in
+    let K = at c.args.rows.now.key in
+    let X = at c.args.rows.now.tail in
     let q = c.is_last.ensures in
     elim c.if-is_last.branch [
       | then-is_last w ↦ rw (w.seen-is, w.low-is) (elim w.if-seen-h.branch [

@@ -5,4 +5,4 @@ use Rattle.bookfit.specs.Marks.{Ended}
 use Rattle.bookfit.proofs.least_ended.Given as goal
 
 abbrev pub invariant-loop-i : goal.invariant-loop-i
-invariant-loop-i l = Ended (at l.key) (at l.tail) l.i l.seen l.low
+invariant-loop-i l = Ended (at l.rows.key) (at l.rows.tail) l.i l.seen l.low

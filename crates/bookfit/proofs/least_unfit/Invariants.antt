@@ -6,4 +6,4 @@ use Rattle.bookfit.specs.Rows.{UnfitTo}
 use Rattle.bookfit.proofs.least_unfit.Given as goal
 
 abbrev pub invariant-loop-i : goal.invariant-loop-i
-invariant-loop-i l = UnfitTo l.n (at l.dur) (linked (links_in l.from l.to l.k)) (at l.key) (at l.tail) l.next_ticket l.i l.low
+invariant-loop-i l = UnfitTo l.yard.places (at l.yard.dur) (linked (links_in l.yard.from l.yard.to l.yard.links)) (at l.rows.key) (at l.rows.tail) l.next_ticket l.i l.low

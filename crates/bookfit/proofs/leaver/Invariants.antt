@@ -5,7 +5,7 @@ use Rattle.bookfit.specs.Filed.{Ahead}
 use Rattle.bookfit.proofs.leaver.Given as goal
 
 abbrev pub invariant-loop-cur : goal.invariant-loop-cur
-invariant-loop-cur l = (l.cur ≤ l.start) × Ahead l.chain (Leaves l.key l.tail l.q l.t) l.start l.cur
+invariant-loop-cur l = (l.cur ≤ l.start) × Ahead l.chain (Leaves l.rows.key l.rows.tail l.q l.t) l.start l.cur
 
 abbrev pub decreases-loop-cur : goal.decreases-loop-cur
 decreases-loop-cur l = l.cur

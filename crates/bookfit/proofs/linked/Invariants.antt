@@ -4,4 +4,4 @@ use Rattle.bookfit.specs.Ring.{Ringed}
 use Rattle.bookfit.proofs.linked.Given as goal
 
 abbrev pub invariant-loop-i : goal.invariant-loop-i
-invariant-loop-i l = (j : ℕ) → j < l.i → Ringed l.key l.tail l.count j → ⊥
+invariant-loop-i l = (j : ℕ) → j < l.i → Ringed l.rows.key l.rows.tail l.count j → ⊥

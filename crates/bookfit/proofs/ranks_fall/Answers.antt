@@ -17,7 +17,7 @@ returns-then-leads c =
     let t = taken_at a.list.now a.m j c.loop-y-test.true in
     let b = rw (c.next_of.ensures.0, c.place_of.ensures, c.exit_of.ensures.0) at (c.leads.ensures.0 c.if-leads.true) in (
       λ q. absurd (not_both q refl),
-      λ U. absurd (unbarred_unringed a.key.now a.tail.now a.count U _
+      λ U. absurd (unbarred_unringed a.rows.now.key a.rows.now.tail a.count U _
           (record { within = omega (arith, t.1, A.within j t.0); goes_on = rw t.1 (A.goes_on j t.0); barred = b })),
     )
 
@@ -25,7 +25,7 @@ pub loop-y-preserved : goal.loop-y-preserved
 loop-y-preserved c =
     let a = c.args in
     let t = taken_at a.list.now a.m c.loop-y.y-index c.loop-y-test.true in
-    passed_next a.key.now a.tail.now a.count a.list.now a.head.now a.chain.now a.rank.now c.loop-y.y-index _ t.1 c.loop-y.invariant (λ R. elim c.if-not-above_all.branch [
+    passed_next a.rows.now.key a.rows.now.tail a.count a.list.now a.head.now a.chain.now a.rank.now c.loop-y.y-index _ t.1 c.loop-y.invariant (λ R. elim c.if-not-above_all.branch [
       | then-not-above_all+else-leads w ↦
           absurd (not_both ((rw (w.next_of.ensures.0, w.place_of.ensures, w.exit_of.ensures.0) at w.leads.ensures.1) R.barred) w.if-leads.false)
       | else-not-above_all w ↦ c.above_all.ensures w.if-not-above_all.false

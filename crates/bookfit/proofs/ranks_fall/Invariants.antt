@@ -4,4 +4,4 @@ use Rattle.bookfit.specs.Filed.{Passed}
 use Rattle.bookfit.proofs.ranks_fall.Given as goal
 
 abbrev pub invariant-loop-y : goal.invariant-loop-y
-invariant-loop-y l = Passed l.key l.tail l.count l.list l.head l.chain l.rank l.y-index
+invariant-loop-y l = Passed l.rows.key l.rows.tail l.count l.list l.head l.chain l.rank l.y-index

@@ -60,5 +60,5 @@ loop-k-preserved c =
 
 pub returns : goal.returns
 returns c =
-    let l = path_rows c.args.dur.now c.args.place.now c.args.label.now c.args.path.now c.args.count c.args.ticket c.requires.path_fits in
+    let l = path_rows c.args.yard.now.dur c.args.windows.now.place c.args.label.now c.args.path.now c.args.count c.args.ticket c.requires.path_fits in
     inserted_all c.loop-k.invariant (omega (arith, c.loop-k.invariant.within, c.loop-k-test.false))

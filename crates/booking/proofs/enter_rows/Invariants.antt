@@ -15,4 +15,4 @@ abbrev pub decreases-loop-j : goal.decreases-loop-j
 decreases-loop-j l = l.j
 
 abbrev pub invariant-loop-k : goal.invariant-loop-k
-invariant-loop-k l = Inserting (run_rows l.ticket (plan_of l.dur l.place l.label (take l.count l.path))) (rows_of l.initial.b) l.initial.b.next_ticket l.k l.b
+invariant-loop-k l = Inserting (run_rows l.ticket (plan_of l.yard.dur l.windows.place l.label (take l.count l.path))) (rows_of l.initial.b) l.initial.b.next_ticket l.k l.b

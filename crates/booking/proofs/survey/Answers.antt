@@ -6,9 +6,9 @@ use Rattle.flatten.specs.Lists.{unmapped}
 use Rattle.booking.specs.Survey.{surveyed}
 use Rattle.booking.proofs.survey.Goals as goal
 
-pub returns : goal.returns
-returns c =
+pub returns-clause-surveyed : goal.returns-clause-surveyed
+returns-clause-surveyed c =
     let p : length c.args.m.places ≡ 256 = search (unmapped, rules) in
     let l : length c.args.m.links ≡ 1024 = search (unmapped, rules) in
     let r : length c.args.b.rows ≡ 1024 = search (unmapped, rules) in
-    surveyed c.read_book-count.ensures c.flat_places.ensures c.flat_links.ensures p l r c.vet.ensures
+    surveyed c.read_book-rows.ensures c.flat_places.ensures c.flat_links.ensures p l r c.vet.ensures

@@ -21,16 +21,16 @@ returns-in_default c =
     let a = c.args in
     let l = c.loop-h in
     let R = run_of c.requires.timed c.requires.t_lt_field_limit c.key_at-in-loop-h.ensures.0 c.first_back-a.ensures c.key_at.ensures.0 c.first_from-b.ensures in
-    (λ _. going_met (rows_in a.key.now a.tail.now a.n) a.t a.q a.p l.invariant c.loop-h-test.true (onward_crossing R (c.expand.ensures.met c.in_default.is)), λ _. refl)
+    (λ _. going_met (rows_in a.rows.now.key a.rows.now.tail a.n) a.t a.q a.p l.invariant c.loop-h-test.true (onward_crossing R (c.expand.ensures.met c.in_default.is)), λ _. refl)
 
 pub loop-h-preserved : goal.loop-h-preserved
 loop-h-preserved c =
     let a = c.args in
     let R = run_of c.requires.timed c.requires.t_lt_field_limit c.key_at-in-loop-h.ensures.0 c.first_back-a.ensures c.key_at.ensures.0 c.first_from-b.ensures in
-    going_turn (rows_in a.key.now a.tail.now a.n) a.t a.q a.p c.loop-h.invariant c.loop-h-test.true
+    going_turn (rows_in a.rows.now.key a.rows.now.tail a.n) a.t a.q a.p c.loop-h.invariant c.loop-h-test.true
     (spread_as (λ y o. onward_crossing R o) (λ y x. crossing_onward R x) (c.expand.ensures.spread _ c.in-Some.is))
 
 pub returns : goal.returns
 returns c =
     let a = c.args in
-    (λ e. absurd (not_both e refl), λ w. absurd (going_none (rows_in a.key.now a.tail.now a.n) a.t a.q a.p c.loop-h.invariant c.loop-h-test.false w))
+    (λ e. absurd (not_both e refl), λ w. absurd (going_none (rows_in a.rows.now.key a.rows.now.tail a.n) a.t a.q a.p c.loop-h.invariant c.loop-h-test.false w))

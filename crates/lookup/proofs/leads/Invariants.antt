@@ -6,7 +6,7 @@ use Rattle.lookup.specs.Spread.{Going}
 use Rattle.lookup.proofs.leads.Given as goal
 
 abbrev pub invariant-loop-h : goal.invariant-loop-h
-invariant-loop-h l = Going (rows_in l.key l.tail l.n) l.t l.q l.p l.marks l.list l.h l.len
+invariant-loop-h l = Going (rows_in l.rows.key l.rows.tail l.n) l.t l.q l.p l.marks l.list l.h l.len
 
 abbrev pub decreases-loop-h : goal.decreases-loop-h
 decreases-loop-h l = 256 - l.h

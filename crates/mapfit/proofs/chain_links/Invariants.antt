@@ -4,4 +4,4 @@ use Rattle.mapfit.specs.Walk.{Linking}
 use Rattle.mapfit.proofs.chain_links.Given as goal
 
 abbrev pub invariant-loop-j : goal.invariant-loop-j
-invariant-loop-j l = Linking l.from l.j l.head l.chain
+invariant-loop-j l = Linking l.yard.from l.j l.ways.head l.ways.chain

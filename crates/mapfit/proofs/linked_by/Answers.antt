@@ -10,10 +10,10 @@ pub loop-l-init : goal.loop-l-init
 loop-l-init c =
     walk_first _ _ _ _ _ c.requires.chained _ c.requires.p_bound
 
-pub returns-then-to-l : goal.returns-then-to-l
-returns-then-to-l c =
+pub returns-then-yard-l : goal.returns-then-yard-l
+returns-then-yard-l c =
     let l = c.loop-l in
-    linked_found c.args.from.now c.args.to.now _ _ _ (l.l - 1) (omega (arith, l.invariant.within)) (l.invariant.leaves (l.l - 1) (omega arith)) c.if-to-l.true
+    linked_found c.args.yard.now.from c.args.yard.now.to _ _ _ (l.l - 1) (omega (arith, l.invariant.within)) (l.invariant.leaves (l.l - 1) (omega arith)) c.if-yard-l.true
 
 pub loop-l-smaller : goal.loop-l-smaller
 loop-l-smaller c =
@@ -23,10 +23,10 @@ loop-l-smaller c =
 pub loop-l-preserved : goal.loop-l-preserved
 loop-l-preserved c =
     let l = c.loop-l in
-    walk_turn _ _ _ _ _ c.requires.chained _ l.l l.invariant (omega arith) c.if-to-l.false
+    walk_turn _ _ _ _ _ c.requires.chained _ l.l l.invariant (omega arith) c.if-yard-l.false
 
 pub returns : goal.returns
 returns c =
     let l = c.loop-l in
     let e : l.l ≡ 0 = omega arith in
-    linked_nowhere c.args.from.now c.args.to.now _ _ _ (rw e at l.invariant)
+    linked_nowhere c.args.yard.now.from c.args.yard.now.to _ _ _ (rw e at l.invariant)

@@ -4,7 +4,7 @@ use Rattle.mapfit.specs.Walk.{Walk, Elsewhere}
 use Rattle.mapfit.proofs.linked_by.Given as goal
 
 abbrev pub invariant-loop-l : goal.invariant-loop-l
-invariant-loop-l l = Walk l.from l.p l.k l.l (Elsewhere l.to l.q)
+invariant-loop-l l = Walk l.yard.from l.p l.yard.links l.l (Elsewhere l.yard.to l.q)
 
 abbrev pub decreases-loop-l : goal.decreases-loop-l
 decreases-loop-l l = l.l

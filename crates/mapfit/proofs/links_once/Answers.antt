@@ -15,5 +15,5 @@ loop-p-preserved c =
 
 pub returns : goal.returns
 returns c =
-    let e : c.loop-p.p ≡ c.args.n = omega arith in
+    let e : c.loop-p.p ≡ c.args.yard.now.places = omega arith in
     (λ _. walked_all _ _ _ _ _ (rw e at c.loop-p.invariant) c.requires.by_index, λ _. refl)

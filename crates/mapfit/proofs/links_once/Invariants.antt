@@ -4,4 +4,4 @@ use Rattle.mapfit.specs.Walk.{Walked}
 use Rattle.mapfit.proofs.links_once.Given as goal
 
 abbrev pub invariant-loop-p : goal.invariant-loop-p
-invariant-loop-p l = Walked l.from l.to l.k l.p l.mark
+invariant-loop-p l = Walked l.yard.from l.yard.to l.yard.links l.p l.mark

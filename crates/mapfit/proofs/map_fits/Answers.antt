@@ -4,11 +4,16 @@ use native.Mathlib.Omega.{arith}
 use Rattle.laws.specs.Tests.{not_both}
 use Rattle.mapfit.specs.Fits.{refused, rules_some, rules_few, rules_few_links, bad_place, bad_link, answered}
 use Rattle.mapfit.proofs.map_fits.Goals as goal
+use Rattle.mapfit.proofs.map_fits.Goals.{then-yard-lt1-via-then-yard-lt1, then-yard-lt1-via-else-yard-lt1+then-yard-gt-PLACES, then-yard-lt1-via-else-yard-lt1+else-yard-gt-PLACES+then-yard-gt-LINKS}
 use Rattle.mapfit.proofs.map_fits.Goals.{then-not-places_fit-via-then-not-places_fit, then-not-places_fit-via-else-not-places_fit+then-not-links_fit}
 
-pub returns-then-n-lt1 : goal.returns-then-n-lt1
-returns-then-n-lt1 c =
-    refused c.requires.head_len c.requires.chain_len (λ M. omega (arith, rules_some _ _ _ _ _ _ M, rules_few _ _ _ _ _ _ M, rules_few_links _ _ _ _ _ _ M))
+pub returns-then-yard-lt1 : goal.returns-then-yard-lt1
+returns-then-yard-lt1 c =
+    refused c.requires.head_len c.requires.chain_len (λ M. elim c.then-yard-lt1.branch [
+      | then-yard-lt1-via-then-yard-lt1 w ↦ omega (arith, rules_some _ _ _ _ _ _ M)
+      | then-yard-lt1-via-else-yard-lt1+then-yard-gt-PLACES w ↦ omega (arith, rules_few _ _ _ _ _ _ M)
+      | then-yard-lt1-via-else-yard-lt1+else-yard-gt-PLACES+then-yard-gt-LINKS w ↦ omega (arith, rules_few_links _ _ _ _ _ _ M)
+    ])
 
 pub returns-then-not-places_fit : goal.returns-then-not-places_fit
 returns-then-not-places_fit c =

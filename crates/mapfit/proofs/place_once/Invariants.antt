@@ -4,7 +4,7 @@ use Rattle.mapfit.specs.Walk.{Marking}
 use Rattle.mapfit.proofs.place_once.Given as goal
 
 abbrev pub invariant-loop-l : goal.invariant-loop-l
-invariant-loop-l l = Marking l.from l.to l.p l.k l.l l.mark
+invariant-loop-l l = Marking l.yard.from l.yard.to l.p l.yard.links l.l l.mark
 
 abbrev pub decreases-loop-l : goal.decreases-loop-l
 decreases-loop-l l = l.l

@@ -7,10 +7,10 @@ use Rattle.pages.proofs.cursor_after.Goals as goal
 pub returns-then-n-eq0 : goal.returns-then-n-eq0
 returns-then-n-eq0 c =
     let a = c.args in
-    last_none a.key.now a.tail.now a.from a.n (cursor_key a.c) c.if-n-eq0.true
+    last_none a.rows.now.key a.rows.now.tail a.from a.n (cursor_key a.c) c.if-n-eq0.true
 
 pub returns : goal.returns
 returns c =
     let a = c.args in
     c.moved.ensures
-    ∙ last_some a.key.now a.tail.now a.from a.n (cursor_key a.c) c.if-n-eq0.false c.row_at-last.ensures
+    ∙ last_some a.rows.now.key a.rows.now.tail a.from a.n (cursor_key a.c) c.if-n-eq0.false c.row_at-last.ensures

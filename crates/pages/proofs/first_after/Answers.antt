@@ -13,6 +13,6 @@ returns-clause-first c =
     let a = c.args in
     let k = cursor_key a.c in
     let P = c.partition_point.ensures in
-    let long : a.count ≤ length a.key.now = omega arith in
+    let long : a.rows.now.count ≤ length a.rows.now.key = omega arith in
     let point = IsPartitionPoint-from_clause (passed k) _ _ P.partitioned (passed_first _ _ long c.requires.keys_rise k) (λ a r q h. search rules) in
-    first_found _ _ long a.tail.now k c.partition_point.result P.bound point
+    first_found _ _ long a.rows.now.tail k c.partition_point.result P.bound point

@@ -8,5 +8,5 @@ use Rattle.pages.proofs.page_of.Goals as goal
 pub returns : goal.returns
 returns c =
     let a = c.args in
-    page_done a.key.now a.tail.now a.count (cursor_key a.c) c.first_after-first.ensures.first a.size a.out.now c.copy_rows.new.out _
+    page_done a.rows.now.key a.rows.now.tail a.rows.now.count (cursor_key a.c) c.first_after-first.ensures.first a.size a.out.now c.copy_rows.new.out _
     c.min-n.ensures refl c.cursor_after-cursor.ensures c.copy_rows.ensures

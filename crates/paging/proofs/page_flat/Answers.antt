@@ -2,18 +2,16 @@
 use mathlib.Core.Path.{refl}
 use native.Mathlib.Omega.{arith}
 use Rattle.std.proofs.lemmas.Result.{err_from_is_err_and}
-use Rattle.laws.specs.Lists.{zeros}
 use Rattle.rules.specs.Gate.Checked.{sound}
 use Rattle.flat.specs.Flat.{yard_in}
-use Rattle.flat.specs.Laws.{places_long, rows_long}
+use Rattle.flat.specs.Laws.{places_long, rows_long, blank}
 use Rattle.lookup.specs.Order.{rising_keys}
 use Rattle.vet.specs.Vetted.{vetted_refused, vetted_sound}
 use Rattle.paging.specs.Ends.{page_refused}
 use Rattle.paging.proofs.page_flat.Goals as goal
 
-pub vet-requires : goal.vet-requires
-vet-requires c =
-    record { head_len = (refl, refl); by_index = zeros 256; packed = c.requires; start_len = (refl, refl, refl, refl) }
+pub vet-requires-clause-by_index : goal.vet-requires-clause-by_index
+vet-requires-clause-by_index c = blank (λ x e. e) c.default-ways.ensures.0
 
 pub returns-in_err-vet : goal.returns-in_err-vet
 returns-in_err-vet c =
@@ -24,11 +22,11 @@ pub page_sound-requires : goal.page_sound-requires
 page_sound-requires c =
     let a = c.args in
     let F = (vetted_sound c.vet.ensures c.in_ok-vet.was).1 in
-    record { count_bound = omega (arith, F.counted.few, rows_long a.key.now a.tail.now a.count); keys_rise = rising_keys a.key.now a.tail.now a.count F.rising; packed = c.requires }
+    record { count_bound = omega (arith, F.counted.few, rows_long a.rows.now.key a.rows.now.tail a.rows.now.count); keys_rise = rising_keys a.rows.now.key a.rows.now.tail a.rows.now.count F.rising; packed = c.requires }
 
 pub returns : goal.returns
 returns c =
     let a = c.args in
     let S = vetted_sound c.vet.ensures c.in_ok-vet.was in
     sound S.0 S.1
-    (c.page_sound.ensures (yard_in a.cap.now a.dur.now a.n a.from.now a.to.now a.k) (places_long a.cap.now a.dur.now a.n))
+    (c.page_sound.ensures (yard_in a.yard.now.cap a.yard.now.dur a.yard.now.places a.yard.now.from a.yard.now.to a.yard.now.links) (places_long a.yard.now.cap a.yard.now.dur a.yard.now.places))

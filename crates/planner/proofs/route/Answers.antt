@@ -8,23 +8,26 @@ use Rattle.planner.specs.Choice.{src_in}
 use Rattle.planner.specs.Route.{routed_unbegun, routed_unreached, routed_found}
 use Rattle.planner.proofs.route.Goals as goal
 
-pub offset_bounds-first-origin : goal.offset_bounds-first-origin
-offset_bounds-first-origin c = omega (arith, lanes_places c.requires.lanes)
+pub offset_bounds-windows-origin : goal.offset_bounds-windows-origin
+offset_bounds-windows-origin c = omega (arith, lanes_places c.requires.lanes)
 
-pub bounds-first-origin : goal.bounds-first-origin
-bounds-first-origin c = omega (arith, lanes_places c.requires.lanes)
+pub bounds-windows-origin : goal.bounds-windows-origin
+bounds-windows-origin c = omega (arith, lanes_places c.requires.lanes)
 
-pub offset_bounds-first-origin-2 : goal.offset_bounds-first-origin-2
-offset_bounds-first-origin-2 c = omega (arith, lanes_places c.requires.lanes)
+pub overflow_add-b : goal.overflow_add-b
+overflow_add-b c = omega (arith, lanes_places c.requires.lanes)
 
-pub bounds-first-origin-2 : goal.bounds-first-origin-2
-bounds-first-origin-2 c = omega (arith, lanes_places c.requires.lanes)
+pub offset_bounds-windows-origin-2 : goal.offset_bounds-windows-origin-2
+offset_bounds-windows-origin-2 c = omega (arith, lanes_places c.requires.lanes)
 
-pub offset_bounds-dur-origin : goal.offset_bounds-dur-origin
-offset_bounds-dur-origin c = omega (arith, lanes_places c.requires.lanes)
+pub bounds-windows-origin-2 : goal.bounds-windows-origin-2
+bounds-windows-origin-2 c = omega (arith, lanes_places c.requires.lanes)
 
-pub bounds-dur-origin : goal.bounds-dur-origin
-bounds-dur-origin c = omega (arith, lanes_places c.requires.lanes)
+pub offset_bounds-yard-origin : goal.offset_bounds-yard-origin
+offset_bounds-yard-origin c = omega (arith, lanes_places c.requires.lanes)
+
+pub bounds-yard-origin : goal.bounds-yard-origin
+bounds-yard-origin c = omega (arith, lanes_places c.requires.lanes)
 
 pub begin_at-requires : goal.begin_at-requires
 begin_at-requires c =

@@ -6,4 +6,4 @@ use Rattle.planner.specs.Route.{Writing}
 use Rattle.planner.proofs.write_plan.Given as goal
 
 abbrev pub invariant-loop-j : goal.invariant-loop-j
-invariant-loop-j l = Writing (run_rows 0 (plan_of l.dur l.place l.label (take l.count l.path))) l.initial.out l.count l.j l.out
+invariant-loop-j l = Writing (run_rows 0 (plan_of l.yard.dur l.windows.place l.label (take l.count l.path))) l.initial.out l.count l.j l.out

@@ -2,17 +2,15 @@
 -- planning over them decides all; its answer's count is at most the records of the caller's list and the rows of a book together, so that the
 -- packed number overflows nowhere.
 use Prim.Native.Nat.{◌<◌}
-use mathlib.Core.Path.{refl}
 use native.Mathlib.Omega.{arith}
 use lib.ListN.{length}
-use Rattle.laws.specs.Lists.{zeros}
+use Rattle.flat.specs.Laws.{blank}
 use Rattle.portal.specs.Read.{portal_plan}
 use Rattle.desk.specs.Few.{plan_few}
 use Rattle.portal.proofs.lanebook_plan.Goals as goal
 
-pub read_book-b-requires : goal.read_book-b-requires
-read_book-b-requires c =
-    record { key_len = refl; tail_len = refl; by_index = zeros 1024 }
+pub read_book-requires : goal.read_book-requires
+read_book-requires c = blank (λ x e. e) c.default-rows.ensures.1.1.0
 
 pub packed_plan-requires : goal.packed_plan-requires
 packed_plan-requires c =
@@ -21,4 +19,4 @@ packed_plan-requires c =
 
 pub returns : goal.returns
 returns c =
-    portal_plan c.read_map-m.ensures c.read_book-b.ensures c.plan_flat-p.ensures c.packed_plan.ensures
+    portal_plan c.read_map.ensures c.read_book.ensures c.plan_flat-p.ensures c.packed_plan.ensures

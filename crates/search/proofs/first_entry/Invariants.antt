@@ -6,7 +6,7 @@ use Rattle.search.specs.Entries.{Passed}
 use Rattle.search.proofs.first_entry.Given as goal
 
 abbrev pub invariant-window : goal.invariant-window
-invariant-window l = Passed (rows_in l.key l.tail l.n) l.q l.p l.lo l.t
+invariant-window l = Passed (rows_in l.rows.key l.rows.tail l.rows.count) l.q l.p l.lo l.t
 
 abbrev pub decreases-window : goal.decreases-window
 decreases-window l = l.hi + 1 - l.t

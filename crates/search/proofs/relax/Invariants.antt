@@ -6,7 +6,7 @@ use Rattle.search.specs.Relax.{AlongLinks}
 use Rattle.search.proofs.relax.Given as goal
 
 abbrev pub invariant-loop-cur : goal.invariant-loop-cur
-invariant-loop-cur l = AlongLinks (rows_in l.key l.tail l.n) l.places l.links l.windows l.dur l.from l.to l.place l.start l.end l.w (at l.place l.w) l.initial.label l.initial.live l.initial.before l.cur l.label l.live l.least l.before
+invariant-loop-cur l = AlongLinks (rows_in l.rows.key l.rows.tail l.rows.count) l.yard.places l.yard.links l.windows.count l.yard.dur l.yard.from l.yard.to l.windows.place l.windows.start l.windows.end l.w (at l.windows.place l.w) l.initial.label l.initial.live l.initial.before l.cur l.label l.live l.least l.before
 
 abbrev pub decreases-loop-cur : goal.decreases-loop-cur
 decreases-loop-cur l = l.cur

@@ -5,4 +5,4 @@ use Rattle.search.specs.Offers.{Relaxing}
 use Rattle.search.proofs.relax_place.Given as goal
 
 abbrev pub invariant-loop-v : goal.invariant-loop-v
-invariant-loop-v l = Relaxing (rows_in l.key l.tail l.n) l.q l.p l.soonest l.leave l.d l.start l.end l.a l.b l.w l.initial.label l.initial.live l.initial.before l.label l.live l.least l.before l.v
+invariant-loop-v l = Relaxing (rows_in l.rows.key l.rows.tail l.rows.count) l.q l.p l.soonest l.leave l.d l.windows.start l.windows.end l.a l.b l.w l.initial.label l.initial.live l.initial.before l.label l.live l.least l.before l.v

@@ -16,10 +16,10 @@ returns c =
     let P = c.requires in
     going_none (lanes_steps P.lanes P.src_lt_windows.0 P.src_lt_windows.1) c.loop-w.invariant (omega arith) c.in_default.ensures
 
-pub returns-then-place-w : goal.returns-then-place-w
-returns-then-place-w c =
+pub returns-then-windows-w : goal.returns-then-windows-w
+returns-then-windows-w c =
     let P = c.requires in
-    going_goal (lanes_steps P.lanes P.src_lt_windows.0 P.src_lt_windows.1) c.loop-w.invariant (omega arith) c.in-Some.ensures (eq-eqb _ _ c.if-place-w.true)
+    going_goal (lanes_steps P.lanes P.src_lt_windows.0 P.src_lt_windows.1) c.loop-w.invariant (omega arith) c.in-Some.ensures (eq-eqb _ _ c.if-windows-w.true)
 
 pub relax-requires-clause-ground : goal.relax-requires-clause-ground
 relax-requires-clause-ground c = lanes_ground c.requires.lanes
@@ -46,4 +46,4 @@ pub loop-w-preserved : goal.loop-w-preserved
 loop-w-preserved c =
     let P = c.requires in
     going_turn (lanes_steps P.lanes P.src_lt_windows.0 P.src_lt_windows.1) c.loop-w.invariant (omega arith) c.in-Some.ensures c.close.ensures.0 (c.relax.ensures.0.through _ (lanes_runs P.lanes))
-    (ne_eqb _ _ c.if-place-w.false) c.relax.ensures.1.1
+    (ne_eqb _ _ c.if-windows-w.false) c.relax.ensures.1.1

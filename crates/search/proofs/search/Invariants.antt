@@ -7,7 +7,7 @@ use Rattle.search.specs.Lanes.{is_at_dest}
 use Rattle.search.proofs.search.Given as goal
 
 abbrev pub invariant-loop-w : goal.invariant-loop-w
-invariant-loop-w l = Going l.windows (next_by (yard_in l.cap l.dur l.places l.from l.to l.links) (rows_in l.key l.tail l.n) l.place l.start l.end) (is_at_dest l.place l.dest) l.src l.s l.label l.live l.least l.before
+invariant-loop-w l = Going l.windows.count (next_by (yard_in l.yard.cap l.yard.dur l.yard.places l.yard.from l.yard.to l.yard.links) (rows_in l.rows.key l.rows.tail l.rows.count) l.windows.place l.windows.start l.windows.end) (is_at_dest l.windows.place l.dest) l.src l.s l.label l.live l.least l.before
 
 abbrev pub decreases-loop-w : goal.decreases-loop-w
-decreases-loop-w l = opens (done_of l.label l.live) l.windows
+decreases-loop-w l = opens (done_of l.label l.live) l.windows.count

@@ -5,4 +5,4 @@ use Rattle.windows.specs.Going.{Going}
 use Rattle.windows.proofs.all_windows.Given as goal
 
 abbrev pub invariant-loop-p : goal.invariant-loop-p
-invariant-loop-p l = Going l.n l.count l.cap l.dur l.key l.tail l.p l.a l.w l.start l.end l.place l.first
+invariant-loop-p l = Going l.yard.places l.count l.yard.cap l.yard.dur l.rows.key l.rows.tail l.p l.a l.w l.windows.start l.windows.end l.windows.place l.windows.first

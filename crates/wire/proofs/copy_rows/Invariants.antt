@@ -3,4 +3,4 @@ use Rattle.wire.specs.Written.{Copied}
 use Rattle.wire.proofs.copy_rows.Given as goal
 
 abbrev pub invariant-loop-j : goal.invariant-loop-j
-invariant-loop-j l = Copied l.key l.tail l.from l.j l.initial.out l.out
+invariant-loop-j l = Copied l.rows.key l.rows.tail l.from l.j l.initial.out l.out
