@@ -16,6 +16,7 @@ ghost use Rattle.booking.specs.Survey.{Surveyed, Ready};
 
 use flat::{Rows, Ways, Windows, Yard};
 use rules::{Book, Change, Cursor, Issued, Map, Refusal};
+use settle::Nodes;
 
 // Map and book written to arrays and vetted.
 fn survey(
@@ -101,16 +102,19 @@ fn book_sound(
     if ticket >= Book::TICKETS {
         return Err(Refusal::NoTickets);
     }
-    let mut label = [86401u32; 1280];
+    let mut nodes = Nodes {
+        label: [86401; 1280],
+        ..Nodes::default()
+    };
     let mut path = [0u16; 1280];
-    let Some(c) = planner::route(yard, ways, rows, windows, a, z, s, &mut label, &mut path) else {
+    let Some(c) = planner::route(yard, ways, rows, windows, a, z, s, &mut nodes, &mut path) else {
         return Err(Refusal::NoPlan);
     };
     if b.count + c > Book::ROWS {
         return Err(Refusal::FullBook);
     }
-    let last = planner::step_at(yard, windows, &label, &path, c, c - 1, ticket);
-    enter_rows(b, yard, windows, &label, &path, c, ticket);
+    let last = planner::step_at(yard, windows, &nodes.label, &path, c, c - 1, ticket);
+    enter_rows(b, yard, windows, &nodes.label, &path, c, ticket);
     *b = ledger::issued(*b);
     Ok(Issued {
         ticket,

@@ -9,6 +9,7 @@ ghost use Rattle.search.specs.Lanes.{LanesHeld};
 
 use flat::{Rows, Ways, Windows, Yard};
 use rules::{Map, Refusal, Row, Trip};
+use settle::Nodes;
 
 // Planning where map and book are sound: 3, 4, 5, 6, or the plan.
 fn plan_sound(
@@ -33,16 +34,19 @@ fn plan_sound(
     if s > Map::DAY {
         return Err(Refusal::OffDay);
     }
-    let mut label = [86401u32; 1280];
+    let mut nodes = Nodes {
+        label: [86401; 1280],
+        ..Nodes::default()
+    };
     let mut path = [0u16; 1280];
-    let Some(c) = planner::route(yard, ways, rows, windows, a, z, s, &mut label, &mut path) else {
+    let Some(c) = planner::route(yard, ways, rows, windows, a, z, s, &mut nodes, &mut path) else {
         return Err(Refusal::NoPlan);
     };
     if out.len() / Row::BYTES < c {
         return Err(Refusal::ShortList);
     }
-    planner::write_plan(yard, windows, &label, &path, c, out);
-    let last = planner::step_at(yard, windows, &label, &path, c, c - 1, 0);
+    planner::write_plan(yard, windows, &nodes.label, &path, c, out);
+    let last = planner::step_at(yard, windows, &nodes.label, &path, c, c - 1, 0);
     Ok(Trip {
         arrival: last.exit,
         count: c,

@@ -14,6 +14,7 @@ ghost use Rattle.planner.specs.Route.{Routed, PathFits};
 
 use flat::{Rows, Ways, Windows, Yard};
 use rules::Row;
+use settle::Nodes;
 
 // The row at k of the first count windows of a path, under a ticket: it is left when the next is entered, the last after its place's duration.
 pub fn step_at(
@@ -49,22 +50,22 @@ pub fn route(
     origin: usize,
     dest: usize,
     s: u32,
-    label: &mut [u32; 1280],
+    nodes: &mut Nodes,
     path: &mut [u16; 1280],
 ) -> Option<usize>
     requires lanes { LanesHeld yard.now ways.now rows.now windows.now }
     requires by_index { (p t : ℕ) → p < (yard_held yard.now).places → load (rows_held rows.now) p t ≤ (yard_held yard.now).cap p }
     requires origin_lt_places { (origin < yard.now.places) × (dest < yard.now.places) × (s ≤ day) }
-    requires by_index_2 { (v : ℕ) → v < 1280 → at label.old v ≡ 86401 }
-    requires label_len { (length label.old ≡ 1280) × (length path.old ≡ 1280) }
-    ensures { Routed (yard_held yard.now) (rows_held rows.now) origin dest s windows.now.count yard.now.dur windows.now.place windows.now.start windows.now.end label.new path.new result }
+    requires by_index_2 { (v : ℕ) → v < 1280 → at nodes.old.label v ≡ 86401 }
+    requires label_len { (length nodes.old.label ≡ 1280) × (length path.old ≡ 1280) }
+    ensures { Routed (yard_held yard.now) (rows_held rows.now) origin dest s windows.now.count yard.now.dur windows.now.place windows.now.start windows.now.end nodes.new.label path.new result }
 {
     let a = windows.first[origin] as usize;
     let b = windows.first[origin + 1] as usize;
     let src = search::begin_at(windows, a, b, s, yard.dur[origin])?;
-    let mut before = [0u16; 1280];
-    let g = search::search(yard, ways, rows, windows, src, s, dest, label, &mut before)?;
-    Some(search::trail(&before, label, g, path))
+    nodes.before = [0; 1280];
+    let g = search::search(yard, ways, rows, windows, src, s, dest, nodes)?;
+    Some(search::trail(&nodes.before, &nodes.label, g, path))
 }
 
 // The rows of a path over the first records of the caller's list, with ticket 0.

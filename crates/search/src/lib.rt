@@ -14,6 +14,7 @@ ghost use Rattle.search.specs.Lanes.{LanesHeld, is_at_dest};
 ghost use Rattle.search.specs.Trail.{Trailed};
 
 use flat::{Rows, Ways, Windows, Yard};
+use settle::Nodes;
 
 // The least second of lo to hi at which the crossing is not barred. Most often it is the first.
 fn first_entry(rows: &Rows, q: u8, p: u8, lo: u32, hi: u32) -> Option<u32>
@@ -41,29 +42,17 @@ fn first_entry(rows: &Rows, q: u8, p: u8, lo: u32, hi: u32) -> Option<u32>
 }
 
 // Window v, to be entered from lo to hi, offered the way through w.
-fn try_window(
-    rows: &Rows,
-    q: u8,
-    p: u8,
-    lo: u32,
-    hi: u32,
-    v: usize,
-    w: usize,
-    label: &mut [u32; 1280],
-    live: &mut [u32; 1280],
-    least: &mut [u32; 40],
-    before: &mut [u16; 1280],
-)
+fn try_window(rows: &Rows, q: u8, p: u8, lo: u32, hi: u32, v: usize, w: usize, nodes: &mut Nodes)
     requires between { Between rows.now.key rows.now.tail rows.now.count q p }
     requires hi_bound { hi ≤ 86400 }
     requires v_bound { (v < 1280) × (w < 1280) }
-    requires labels { Labels label.old live.old before.old }
-    requires blocks { Blocks live.old least.old }
-    ensures { Tried (rows_held rows.now) q p lo hi v w label.old live.old before.old label.new live.new before.new × (Labels label.new live.new before.new × Blocks live.new least.new) }
+    requires labels { Labels nodes.old.label nodes.old.live nodes.old.before }
+    requires blocks { Blocks nodes.old.live nodes.old.least }
+    ensures { Tried (rows_held rows.now) q p lo hi v w nodes.old.label nodes.old.live nodes.old.before nodes.new.label nodes.new.live nodes.new.before × (Labels nodes.new.label nodes.new.live nodes.new.before × Blocks nodes.new.live nodes.new.least) }
 {
-    if lo < label[v] {
+    if lo < nodes.label[v] {
         if let Some(t) = first_entry(rows, q, p, lo, hi) {
-            settle::offer(label, live, least, before, v, w, t);
+            settle::offer(nodes, v, w, t);
         }
     }
 }
@@ -89,18 +78,15 @@ fn relax_place(
     soonest: u32,
     leave: u32,
     w: usize,
-    label: &mut [u32; 1280],
-    live: &mut [u32; 1280],
-    least: &mut [u32; 40],
-    before: &mut [u16; 1280],
+    nodes: &mut Nodes,
 )
     requires between { Between rows.now.key rows.now.tail rows.now.count q p }
     requires a_le_b { (a ≤ b) × (b ≤ 1280) × (w < 1280) }
     requires d_bound { (d ≤ 3600) × (soonest ≤ 90000) × (leave ≤ 86400) }
     requires row1 { Row1 windows.now.start windows.now.end a b d }
-    requires labels { Labels label.old live.old before.old }
-    requires blocks { Blocks live.old least.old }
-    ensures { OfferedTo (rows_held rows.now) q p soonest leave d windows.now.start windows.now.end a b w label.old live.old before.old b label.new live.new before.new × (Labels label.new live.new before.new × Blocks live.new least.new) }
+    requires labels { Labels nodes.old.label nodes.old.live nodes.old.before }
+    requires blocks { Blocks nodes.old.live nodes.old.least }
+    ensures { OfferedTo (rows_held rows.now) q p soonest leave d windows.now.start windows.now.end a b w nodes.old.label nodes.old.live nodes.old.before b nodes.new.label nodes.new.live nodes.new.before × (Labels nodes.new.label nodes.new.live nodes.new.before × Blocks nodes.new.live nodes.new.least) }
 {
     for v in first_open(&windows.end, a, b, soonest + d)..b {
         let from = windows.start[v];
@@ -109,7 +95,7 @@ fn relax_place(
         }
         let lo = soonest.max(from);
         let hi = leave.min(windows.end[v] - d);
-        try_window(rows, q, p, lo, hi, v, w, label, live, least, before);
+        try_window(rows, q, p, lo, hi, v, w, nodes);
     }
 }
 
@@ -123,57 +109,40 @@ fn relax_link(
     soonest: u32,
     leave: u32,
     w: usize,
-    label: &mut [u32; 1280],
-    live: &mut [u32; 1280],
-    least: &mut [u32; 40],
-    before: &mut [u16; 1280],
+    nodes: &mut Nodes,
 )
     requires between { Between rows.now.key rows.now.tail rows.now.count q p × (w < 1280) × (soonest ≤ 90000) × (leave ≤ 86400) }
     requires q_bound { (at windows.now.first q ≤ at windows.now.first (q + 1)) × (at windows.now.first (q + 1) ≤ 1280) × (at yard.now.dur q ≤ 3600) }
     requires row1 { Row1 windows.now.start windows.now.end (at windows.now.first q) (at windows.now.first (q + 1)) (at yard.now.dur q) }
-    requires labels { Labels label.old live.old before.old }
-    requires blocks { Blocks live.old least.old }
-    ensures { OfferedTo (rows_held rows.now) q p soonest leave (at yard.now.dur q) windows.now.start windows.now.end (at windows.now.first q) (at windows.now.first (q + 1)) w label.old live.old before.old (at windows.now.first (q + 1)) label.new live.new before.new × (Labels label.new live.new before.new × Blocks live.new least.new) }
+    requires labels { Labels nodes.old.label nodes.old.live nodes.old.before }
+    requires blocks { Blocks nodes.old.live nodes.old.least }
+    ensures { OfferedTo (rows_held rows.now) q p soonest leave (at yard.now.dur q) windows.now.start windows.now.end (at windows.now.first q) (at windows.now.first (q + 1)) w nodes.old.label nodes.old.live nodes.old.before (at windows.now.first (q + 1)) nodes.new.label nodes.new.live nodes.new.before × (Labels nodes.new.label nodes.new.live nodes.new.before × Blocks nodes.new.live nodes.new.least) }
 {
     let i = q as usize;
     let a = windows.first[i] as usize;
     let b = windows.first[i + 1] as usize;
     let d = yard.dur[i];
-    relax_place(
-        rows, windows, a, b, q, p, d, soonest, leave, w, label, live, least, before,
-    );
+    relax_place(rows, windows, a, b, q, p, d, soonest, leave, w, nodes);
 }
 
 // The way through window w of place p offered to every window that a link of p leads to.
-fn relax(
-    yard: &Yard,
-    ways: &Ways,
-    rows: &Rows,
-    windows: &Windows,
-    w: usize,
-    label: &mut [u32; 1280],
-    live: &mut [u32; 1280],
-    least: &mut [u32; 40],
-    before: &mut [u16; 1280],
-)
+fn relax(yard: &Yard, ways: &Ways, rows: &Rows, windows: &Windows, w: usize, nodes: &mut Nodes)
     requires ground { Ground yard.now.places yard.now.links windows.now.count yard.now.dur yard.now.from yard.now.to ways.now.head ways.now.chain windows.now.place windows.now.start windows.now.end windows.now.first }
-    requires w_lt_windows { (w < windows.now.count) × (at label.old w ≤ 86400) × Kept rows.now.key rows.now.tail rows.now.count }
-    requires labels { Labels label.old live.old before.old }
-    requires blocks { Blocks live.old least.old }
-    ensures { Relaxed (rows_held rows.now) yard.now.places yard.now.links windows.now.count yard.now.dur yard.now.from yard.now.to windows.now.place windows.now.start windows.now.end w label.old live.old before.old label.new live.new before.new × (Labels label.new live.new before.new × Blocks live.new least.new) }
+    requires w_lt_windows { (w < windows.now.count) × (at nodes.old.label w ≤ 86400) × Kept rows.now.key rows.now.tail rows.now.count }
+    requires labels { Labels nodes.old.label nodes.old.live nodes.old.before }
+    requires blocks { Blocks nodes.old.live nodes.old.least }
+    ensures { Relaxed (rows_held rows.now) yard.now.places yard.now.links windows.now.count yard.now.dur yard.now.from yard.now.to windows.now.place windows.now.start windows.now.end w nodes.old.label nodes.old.live nodes.old.before nodes.new.label nodes.new.live nodes.new.before × (Labels nodes.new.label nodes.new.live nodes.new.before × Blocks nodes.new.live nodes.new.least) }
 {
     let p = windows.place[w];
     let here = p as usize;
-    let soonest = label[w] + yard.dur[here];
+    let soonest = nodes.label[w] + yard.dur[here];
     let leave = windows.end[w];
     // the links of p by number, from its last to its first; 0 ends them
     let mut cur = ways.head[here] as usize;
     while cur > 0 {
         let j = cur - 1;
         let q = yard.to[j];
-        relax_link(
-            yard, rows, windows, q, p, soonest, leave, w, label, live, least, before,
-        );
+        relax_link(yard, rows, windows, q, p, soonest, leave, w, nodes);
         cur = ways.chain[j] as usize;
     }
 }
@@ -187,30 +156,27 @@ pub fn search(
     src: usize,
     s: u32,
     dest: usize,
-    label: &mut [u32; 1280],
-    before: &mut [u16; 1280],
+    nodes: &mut Nodes,
 ) -> Option<usize>
     requires lanes { LanesHeld yard.now ways.now rows.now windows.now }
     requires src_lt_windows { (src < windows.now.count) × (s < 86401) }
-    requires by_index { (v : ℕ) → v < 1280 → at label.old v ≡ 86401 }
-    requires src_value { at before.old src ≡ 0 }
-    requires label_len { (length label.old ≡ 1280) × (length before.old ≡ 1280) }
-    ensures { Answer windows.now.count (next_by (yard_held yard.now) (rows_held rows.now) windows.now.place windows.now.start windows.now.end) (is_at_dest windows.now.place dest) src s label.new before.new result }
+    requires by_index { (v : ℕ) → v < 1280 → at nodes.old.label v ≡ 86401 }
+    requires src_value { at nodes.old.before src ≡ 0 }
+    requires label_len { (length nodes.old.label ≡ 1280) × (length nodes.old.before ≡ 1280) }
+    ensures { Answer windows.now.count (next_by (yard_held yard.now) (rows_held rows.now) windows.now.place windows.now.start windows.now.end) (is_at_dest windows.now.place dest) src s nodes.new.label nodes.new.before result }
 {
     let blocks = (windows.count + 31) / 32;
-    let mut live = [86401u32; 1280];
-    let mut least = [86401u32; 40];
-    label[src] = s;
-    live[src] = s;
-    least[src / 32] = s;
-    while let Some(w) = settle::pick(&live, &least, blocks) {
+    nodes.live = [86401; 1280];
+    nodes.least = [86401; 40];
+    nodes.label[src] = s;
+    nodes.live[src] = s;
+    nodes.least[src / 32] = s;
+    while let Some(w) = settle::pick(&nodes.live, &nodes.least, blocks) {
         if windows.place[w] as usize == dest {
             return Some(w);
         }
-        settle::close(&mut live, &mut least, w);
-        relax(
-            yard, ways, rows, windows, w, label, &mut live, &mut least, before,
-        );
+        settle::close(&mut nodes.live, &mut nodes.least, w);
+        relax(yard, ways, rows, windows, w, nodes);
     }
     None
 }

@@ -5,6 +5,16 @@ ghost use Rattle.std.specs.Prelude.{◌≡◌, ◌+◌, ◌*◌, ◌≤◌, ◌<
 ghost use Rattle.std.specs.List.{fold};
 ghost use Rattle.settle.specs.Blocks.{Blocks, Stands, FirstAt, Picked, Offered};
 
+// What a search knows of its nodes: the label of each, 86,401 where it has none; the label again while the node is open, and the least of each 32 of these;
+// and the node before, with one added, 0 where there is none.
+#[derive(Default, Drop)]
+pub struct Nodes {
+    pub label: [u32; 1280],
+    pub live: [u32; 1280],
+    pub least: [u32; 40],
+    pub before: [u16; 1280],
+}
+
 // the least of the entries, the mark 86,401 where none is open
 fn least_of(entries: &[u32]) -> u32
     ensures { result ≡ fold min 86401 entries.now }
@@ -49,28 +59,20 @@ pub fn close(live: &mut [u32; 1280], least: &mut [u32; 40], w: usize)
 }
 
 // entry t into v by way of w, taken where it is sooner than what v has
-pub fn offer(
-    label: &mut [u32; 1280],
-    live: &mut [u32; 1280],
-    least: &mut [u32; 40],
-    before: &mut [u16; 1280],
-    v: usize,
-    w: usize,
-    t: u32,
-)
+pub fn offer(nodes: &mut Nodes, v: usize, w: usize, t: u32)
     requires v_bound { v < 1280 }
     requires w_bound { w < 1280 }
-    requires blocks { Blocks live.old least.old }
-    requires v_bound_2 { get_or label.old v 0 ≤ get_or live.old v 0 }
-    ensures { Offered label.old live.old before.old v w t label.new live.new before.new × Blocks live.new least.new }
+    requires blocks { Blocks nodes.old.live nodes.old.least }
+    requires v_bound_2 { get_or nodes.old.label v 0 ≤ get_or nodes.old.live v 0 }
+    ensures { Offered nodes.old.label nodes.old.live nodes.old.before v w t nodes.new.label nodes.new.live nodes.new.before × Blocks nodes.new.live nodes.new.least }
 {
-    if t < label[v] {
-        label[v] = t;
-        live[v] = t;
-        before[v] = (w + 1) as u16;
+    if t < nodes.label[v] {
+        nodes.label[v] = t;
+        nodes.live[v] = t;
+        nodes.before[v] = (w + 1) as u16;
         let k = v / 32;
-        if t < least[k] {
-            least[k] = t;
+        if t < nodes.least[k] {
+            nodes.least[k] = t;
         }
     }
 }

@@ -9,7 +9,7 @@ use Rattle.search.proofs.search.Goals as goal
 pub loop-w-init : goal.loop-w-init
 loop-w-init c =
     let P = c.requires in
-    going_start (lanes_steps P.lanes P.src_lt_windows.0 P.src_lt_windows.1) c.args.label.now c.args.before.now P.label_len.0 P.label_len.1 P.src_value P.by_index
+    going_start (lanes_steps P.lanes P.src_lt_windows.0 P.src_lt_windows.1) c.args.nodes.now.label c.args.nodes.now.before P.label_len.0 P.label_len.1 P.src_value P.by_index
 
 pub returns : goal.returns
 returns c =
