@@ -1,7 +1,7 @@
 // The program's frames: a line of digits in, the state after it and the answer's digits out.
 #![tactic(auto)]
 
-ghost use Rattle.std.specs.Prelude.{◌≡◌, true, ℕ, ◌+◌, ◌*◌, ◌%◌, ◌<◌, ◌≤◌, List, [], ◌∷◌, ◌++◌, length, take, drop, MatchOption};
+ghost use Rattle.std.specs.Prelude.{◌≡◌, true, ℕ, ◌+◌, ◌*◌, ◌%◌, ◌<◌, ◌≤◌, List, [], ◌∷◌, ◌++◌, length, take, drop};
 ghost use Rattle.rules.specs.declared.State.{State};
 ghost use Rattle.rules.specs.Rows.{bit};
 ghost use Rattle.rules.specs.Bytes.{bytes2, bytes3, row_size, row_line_size, answer_room};

@@ -9,7 +9,7 @@ use rules::Desk;
 use std::fmt;
 use std::io::{self, Read};
 
-// What ends the program before its input does.
+// A read or a write that fails, which ends the program.
 #[derive(Drop)]
 enum Stop {
     Read(io::Error),

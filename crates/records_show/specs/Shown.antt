@@ -15,7 +15,7 @@ use Rattle.rules.specs.Book.{GoodBook, book_of}
 use Rattle.rules.specs.Gate.{Unless}
 use Rattle.rules.specs.GateLaws.{past, passed}
 use Rattle.rules.specs.Answer.{Planned, Paged, Planning, PlanRefused, PlanAnswers, PlanRecords, answer_number, planned_arrival, planned_rows}
-use Rattle.rules.specs.Answer.{rows_done, PagingIs, PageRefused, PageRecords, answer_number, paged_rows, paged_more, over}
+use Rattle.rules.specs.Answer.{rows_done, PagingIs, PageRefused, PageRecords, paged_rows, paged_more, over}
 use Rattle.keeping.specs.Books.{rows_of_book, good_book}
 use Rattle.cases.specs.Maps.{yard, arrays, barn_good}
 use Rattle.cases.specs.Past.{rows_now, book_now}

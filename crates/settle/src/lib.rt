@@ -1,7 +1,7 @@
 // Label setting over lent arrays: the choice of the next node through block minima.
 #![tactic(auto)]
 
-ghost use Rattle.std.specs.Prelude.{◌≡◌, ◌+◌, ◌*◌, ◌≤◌, ◌<◌, min, length, get_or, set};
+ghost use Rattle.std.specs.Prelude.{◌≡◌, ◌+◌, ◌*◌, ◌≤◌, ◌<◌, min, get_or, set};
 ghost use Rattle.std.specs.List.{fold};
 ghost use Rattle.settle.specs.Blocks.{Blocks, Stands, FirstAt, Picked, Offered};
 

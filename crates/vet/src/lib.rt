@@ -10,7 +10,7 @@ ghost use Rattle.vet.specs.Vetted.{Vetted};
 use flat::{Rows, Ways, Windows, Yard};
 use rules::Refusal;
 
-// Map and book tested: how many free windows there are, or why one is refused.
+// Map and book tested: how many free windows there are, which the caller counts in `windows`, or why one is refused.
 pub fn vet(
     yard: &Yard,
     ways: &mut Ways,
