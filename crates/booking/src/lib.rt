@@ -102,10 +102,8 @@ fn book_sound(
     if ticket >= Book::TICKETS {
         return Err(Refusal::NoTickets);
     }
-    let mut nodes = Nodes {
-        label: [86401; 1280],
-        ..Nodes::default()
-    };
+    let mut nodes = Nodes::default();
+    nodes.label = [86401; 1280];
     let mut path = [0u16; 1280];
     let Some(c) = planner::route(yard, ways, rows, windows, a, z, s, &mut nodes, &mut path) else {
         return Err(Refusal::NoPlan);
