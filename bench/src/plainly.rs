@@ -21,14 +21,17 @@ fn plain(source: &str) -> String {
         let text = line.trim_start();
         if begins_clause(text) || depth > 0 {
             depth += text.matches('{').count() as i32 - text.matches('}').count() as i32;
+            if depth == 0 && text.ends_with(';') {
+                kept.push_str(";\n"); // the clause of a trait's method, which has no body
+            }
             continue;
         }
         if ghost || text.starts_with("ghost ") {
             ghost = !text.ends_with(';');
             continue;
         }
-        if text.starts_with("#![tactic(") || text.starts_with("#[derive(") {
-            continue; // each type is `Copy` here (below)
+        if text.starts_with("#![tactic(") || text.starts_with("#[tactic(") {
+            continue;
         }
         kept.push_str(line);
         kept.push('\n');
@@ -42,8 +45,17 @@ fn begins_function(line: &str) -> bool {
     text.starts_with("fn ") || text.starts_with("pub fn ")
 }
 
-fn begins_type(line: &str) -> bool {
-    ["struct ", "pub struct ", "enum ", "pub enum "].iter().any(|word| line.starts_with(word))
+/// The name of the type that a line begins.
+fn type_begun(line: &str) -> Option<&str> {
+    let text = line.strip_prefix("pub ").unwrap_or(line);
+    let rest = text.strip_prefix("struct ").or_else(|| text.strip_prefix("enum "))?;
+    rest.split(|c: char| !c.is_alphanumeric() && c != '_').next()
+}
+
+/// What is derived, where a line says so.
+fn derived(line: &str) -> Option<Vec<&str>> {
+    let list = line.strip_prefix("#[derive(")?.strip_suffix(")]")?;
+    Some(list.split(", ").collect())
 }
 
 fn main() {
@@ -53,9 +65,21 @@ fn main() {
     for name in words.iter().filter(|word| *word != "--apart") {
         let source = read_to_string(format!("crates/{}/src/lib.rt", name)).expect("a crate's source");
         println!("pub mod {} {{\nuse crate::*;", name);
+        let mut traits: Vec<&str> = Vec::new();
         for line in plain(&source).lines() {
-            if begins_type(line) {
-                println!("#[derive(Clone, Copy)]");
+            if let Some(list) = derived(line) {
+                traits = list;
+                continue;
+            }
+            if let Some(name) = type_begun(line) {
+                // Each type is `Copy` here, and made of zeros by default: Rust has no `Default` of long arrays.
+                if traits.contains(&"Default") {
+                    println!("impl Default for {name} {{ fn default() -> Self {{ unsafe {{ std::mem::zeroed() }} }} }}");
+                }
+                traits.retain(|t| !["Clone", "Copy", "Default", "Drop"].contains(t));
+                traits.extend(["Clone", "Copy"]);
+                println!("#[derive({})]", traits.join(", "));
+                traits.clear();
             }
             if apart && begins_function(line) {
                 println!("#[inline(never)]");
