@@ -17,7 +17,9 @@ pub fn flat_places(m: Map, cap: &mut [u8; 256], dur: &mut [u32; 256])
     requires dur_len { length dur.old ≡ 256 }
     ensures { PlacesFlat m cap.new dur.new }
 {
-    for (p, place) in m.places.iter().enumerate() {
+    // by index: over `iter().enumerate()` the compiler gathers byte by byte
+    for p in 0..Map::PLACES {
+        let place = m.places[p];
         cap[p] = place.capacity;
         dur[p] = u32::from(place.duration);
     }
@@ -29,7 +31,9 @@ pub fn flat_links(m: Map, from: &mut [u8; 1024], to: &mut [u8; 1024])
     requires to_len { length to.old ≡ 1024 }
     ensures { LinksFlat m from.new to.new }
 {
-    for (j, link) in m.links.iter().enumerate() {
+    // by index: over `iter().enumerate()` the compiler gathers byte by byte
+    for j in 0..Map::LINKS {
+        let link = m.links[j];
         from[j] = link.from;
         to[j] = link.to;
     }
