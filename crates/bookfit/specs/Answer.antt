@@ -84,11 +84,11 @@ module _ {C D : List ℕ} {n : ℕ} {F T : List ℕ} {k : ℕ} {K X : List ℕ} 
     pub book_overfull : {i : ℕ} → FirstAt (Capped n C) K X count i → BookFits C D n F T k K X count t (Err (Overfull i)) S E P A
     book_overfull {i} f = faulty (Overfull i) refl (overfull (counts Z) (rising Z) (runs_whole Z) (capped_first (yard Z) f.first))
 
-    module _ {r : Option ℕ} {w : ℕ} (all : AllWindows n count C D K X r S E P A) (e : r ≡ Some w) where
-      -- 16
-      pub book_barred : {i : ℕ} → FirstAt Unbarred K X count i → BookFits C D n F T k K X count t (Err (Barred i)) S E P A
-      book_barred {i} f = faulty (Barred i) refl (barred (counts Z) (rising Z) (runs_whole Z) (capped_room (yard Z) _ (all.fits w e)) f.first)
+    -- 16
+    pub book_barred : Capped n C (rows_in K X count) → {i : ℕ} → FirstAt Unbarred K X count i → BookFits C D n F T k K X count t (Err (Barred i)) S E P A
+    book_barred room {i} f = faulty (Barred i) refl (barred (counts Z) (rising Z) (runs_whole Z) (capped_room (yard Z) _ room) f.first)
 
+    module _ {r : Option ℕ} {w : ℕ} (all : AllWindows n count C D K X r S E P A) (e : r ≡ Some w) where
       pub book_good : Unbarred (rows_in K X count) → BookFits C D n F T k K X count t (Ok w) S E P A
       book_good B = good w refl (omega (arith, all.bound w e))
           (record { counted = counts Z; rising = rising Z; whole = runs_whole Z; room = capped_room (yard Z) _ (all.fits w e); exchange = B })

@@ -15,3 +15,6 @@ module _ (P : ℕ → Type 0) where
 
   pub each_next : (c : ℕ) → Each P c → P c → Each P (c + 1)
   each_next c E p = record { each = below_next P c E.each p }
+
+  pub each_to : (c n : ℕ) → n ≤ c → Each P c → Each P n
+  each_to c n h E = record { each = λ i k. E.each i (omega arith) }

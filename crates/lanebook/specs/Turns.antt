@@ -1,10 +1,11 @@
 -- One turn of the program: no byte of a read is left out and none is taken twice.
 use Rattle.std.specs.Prelude.{ℕ, ◌≤◌, List, [], ◌++◌, length, take}
-use Rattle.std.proofs.Common.{arith}
+use Rattle.std.proofs.Common.{⊎_elim, arith}
 use Rattle.std.proofs.Math.Seq.{slice, slice_empty}
 use Rattle.rules.specs.declared.Desk.{Desk}
 use Rattle.rules.specs.declared.Intake.{Intake}
-use Rattle.rules.specs.Program.{FedIs, Feeds}
+use Rattle.rules.specs.declared.Told.{Told}
+use Rattle.rules.specs.Program.{EndedIs, FedIs, Feeds}
 use Rattle.frames.specs.Cutting.{feeds_none, feeds_append, slice_join}
 
 -- the bytes to index i are taken, with these answers
@@ -27,3 +28,7 @@ taking_next {d} {e} {buf} {was} {out} {i} {r} T F = record {
   feeds = rw (slice_join 0 i r.upto buf (omega arith) F.after (F.within T.within)) at (feeds_append T.feeds F.feeds);
   within = F.within T.within;
 }
+
+-- the last line's answer is within the caller's list
+pub ended_fits : {d : Desk} {was out : List ℕ} {r : Told} → EndedIs d was out r → r.len ≤ length out
+ended_fits E = ⊎_elim (λ x. omega (arith, x.1.none)) (λ x. omega (arith, x.0, x.1.fits, x.1.long)) E

@@ -51,6 +51,9 @@ linking_turn F j f H N L h e b = rw e (linking_here F j H N L h (omega arith))
 
 -- a link's number falls along a list
 module _ {F : List ℕ} {k : ℕ} {H N : List ℕ} (L : Chained F k H N) where
+  pub head_within : (p : ℕ) → p < 256 → at H p ≤ k
+  head_within p h = omega (arith, L.head p h, (last_is F p k).within)
+
   pub chain_within : (j : ℕ) → j < k → at N j ≤ j
   chain_within j h = omega (arith, L.link j h, (last_is F (at F j) j).within)
 
@@ -209,3 +212,7 @@ module _ (F T : List ℕ) (k : ℕ) where
   -- with every link from a place below n, the places' links together are all links
   pub walked_all : (n : ℕ) (M : List ℕ) → Walked F T k n M → ((j : ℕ) → j < k → at F j < n) → Once F T k
   walked_all n M W on = record { twice = λ i j h g a b. (W.once (at F i) (on i (omega arith))).twice i j h g refl (sym a) b }
+
+  -- and with no two links the same, none of a place's are
+  pub once_from : (p : ℕ) → Once F T k → OnceFrom F T k p
+  once_from p O = record { twice = λ i j h g a b e. O.twice i j h g (a ∙ sym b) e }

@@ -1,4 +1,4 @@
--- Eight records compared one after the other: the first i are equal.
+-- Two lists of eight records: the first i are equal, and where all eight are, so are the lists.
 use Rattle.std.specs.Prelude.{ℕ, ◌+◌, ◌≤◌, ◌<◌, ◌≡◌, List, length}
 use Rattle.std.proofs.Common.{ap, ◌∙◌, sym, ⊎_elim, arith, ext_get_or}
 use Rattle.laws.specs.Order.{lt_or_ge}

@@ -1,7 +1,7 @@
 -- The entry into a window: the least second that the two windows, the durations and the crossings allow; as a label, 86,401 where there is none.
 use Rattle.std.specs.Prelude.{ℕ, ◌+◌, ◌-◌, ◌≤◌, ◌<◌, min, max, ◌≡◌, refl, Option, Some, None, List}
 use Rattle.std.specs.Option.{unwrap_or}
-use Rattle.std.proofs.Common.{⊎_elim, arith}
+use Rattle.std.proofs.Common.{ap, ⊎_elim, arith}
 use Rattle.laws.specs.Order.{lt_or_ge}
 use Rattle.rules.specs.declared.Row.{Row}
 use Rattle.rules.specs.Rows.{Barred}
@@ -17,6 +17,13 @@ pub record ClearAt (rows : List Row) (q p lo hi t : ℕ) : Type 0 where
 abbrev pub FirstClear : List Row → ℕ → ℕ → ℕ → ℕ → Option ℕ → Type 0
 FirstClear rows q p lo hi None = (u : ℕ) → lo ≤ u → u ≤ hi → (Barred rows p q u → ⊥) → ⊥
 FirstClear rows q p lo hi (Some t) = ClearAt rows q p lo hi t
+
+-- there is one answer
+pub first_clear_same : (rows : List Row) (q p lo hi : ℕ) (r r' : Option ℕ) → FirstClear rows q p lo hi r → FirstClear rows q p lo hi r' → r ≡ r'
+first_clear_same rows q p lo hi None None a b = refl
+first_clear_same rows q p lo hi None (Some t) a b = absurd (a t b.from b.to b.clear)
+first_clear_same rows q p lo hi (Some t) None a b = absurd (b t a.from a.to a.clear)
+first_clear_same rows q p lo hi (Some t) (Some u) a b = let e : t ≡ u = omega (arith, b.low t a.from a.to a.clear, a.low u b.from b.to b.clear) in ap Some e
 
 -- ---- the loop over seconds: each from lo to t - 1 is barred
 

@@ -1,10 +1,10 @@
 -- The windows of one place, and of all places that a place's links lead to, offered the way through a window.
-use Rattle.std.specs.Prelude.{ℕ, ◌+◌, ◌-◌, ◌≤◌, ◌<◌, min, max, ◌≡◌, ◌⊎◌, Option, Some, None, List, length, get_or, take, drop, true, false, ltb}
+use Rattle.std.specs.Prelude.{ℕ, ◌+◌, ◌-◌, ◌≤◌, ◌<◌, min, max, ◌≡◌, ◌⊎◌, Option, Some, None, List, length, get_or, set, take, drop, true, false, ltb}
 use Rattle.std.specs.Option.{unwrap_or}
 use Rattle.std.specs.List.Sorted.{IsNonDecreasingBy, IsPartitionPoint}
-use Rattle.std.proofs.Common.{ap, subst, ◌∙◌, inl, inr, ⊎_elim, arith, get_or-take, length-take-le, length-drop, ltb-true, ltb-false}
+use Rattle.std.proofs.Common.{ap, subst, ◌∙◌, inl, inr, ⊎_elim, arith, get_or-take, length-take-le, length-drop, length-set, get_or-set_same, get_or-set_other, ltb-true, ltb-false}
 use Rattle.std.proofs.lemmas.List.{get_or-drop, get_or_default}
-use Rattle.laws.specs.Order.{lt_or_ge}
+use Rattle.laws.specs.Order.{lt_or_ge, eq_or_ne}
 use Rattle.laws.specs.Lists.{at}
 use Rattle.rules.specs.declared.Row.{Row}
 use Rattle.settle.specs.Blocks.{Blocks, Offered}
@@ -27,6 +27,21 @@ pub record Labels (lab op bef : List ℕ) : Type 0 where
   pub above : (x : ℕ) → at lab x ≤ at op x
   pub len_lab : length lab ≡ 1280
   pub len_bef : length bef ≡ 1280
+
+-- an offer keeps them so
+pub offered_labels : {lab op bef lab' op' bef' : List ℕ} {v w t : ℕ} → v < 1280 → length op ≡ 1280 → Labels lab op bef → Offered lab op bef v w t lab' op' bef' → Labels lab' op' bef'
+offered_labels {lab} {op} {bef} {lab'} {op'} {bef'} {v} {w} {t} h n L O =
+    ⊎_elim (λ (c : t < at lab v). let k = O.took c in rw (k.0, k.1, k.2) (taken c)) (λ (c : at lab v ≤ t). let k = O.left c in rw (k.0, k.1, k.2) L) (lt_or_ge t (at lab v))
+  where
+    taken : t < at lab v → Labels (set lab v t) (set op v t) (set bef v (w + 1))
+    taken c = record {
+      low = λ x. ⊎_elim (λ (e : x ≡ v). rw e (omega (arith, get_or-set_same lab v t 0 (omega (arith, L.len_lab)), L.low v))) (λ (e : x ≡ v → ⊥). omega (arith, get_or-set_other lab v x t 0 e, L.low x)) (eq_or_ne x v);
+      above = λ x.
+          ⊎_elim (λ (e : x ≡ v). rw e (omega (arith, get_or-set_same lab v t 0 (omega (arith, L.len_lab)), get_or-set_same op v t 0 (omega arith))))
+          (λ (e : x ≡ v → ⊥). omega (arith, get_or-set_other lab v x t 0 e, get_or-set_other op v x t 0 e, L.above x)) (eq_or_ne x v);
+      len_lab = length-set lab v t ∙ L.len_lab;
+      len_bef = length-set bef v (w + 1) ∙ L.len_bef;
+    }
 
 -- window v was tried, entered from lo to hi: whatever the entry is, it was offered, the mark where there is none
 pub record Tried (rows : List Row) (q p lo hi v w : ℕ) (lab op bef lab' op' bef' : List ℕ) : Type 0 where
@@ -136,6 +151,11 @@ module _ (E : List ℕ) {a b : ℕ} (h : a ≤ b) (l : b ≤ length E) where
     past = λ i m n. let j : ℕ = i - a in let e : a + j ≡ i = omega arith in omega (arith, ap (at E) e, part_at j 0 (omega (arith, part_long)), ltb-true _ x (I.0 j 0 (omega arith) (omega arith)));
     rest = λ i m n. let j : ℕ = i - a in let e : a + j ≡ i = omega arith in omega (arith, ap (at E) e, part_at j 0 (omega arith), ltb-false _ x (I.1 j 0 (omega arith) (omega (arith, part_long))));
   }
+
+-- ends rise along a place's windows
+pub ends_rise : {S E : List ℕ} {a b d : ℕ} → Row1 S E a b d → (i j : ℕ) → a ≤ i → i ≤ j → j < b → at E i ≤ at E j
+ends_rise {S} {E} R i j h k m =
+    ⊎_elim (λ (c : i < j). omega (arith, R.rise i j h c m, R.long j (omega arith) m)) (λ (c : j ≤ i). let e : i ≡ j = omega arith in omega (arith, ap (at E) e)) (lt_or_ge i j)
 
 -- the loop over the windows of a place, at window v
 pub record Relaxing (rows : List Row) (q p soonest leave d : ℕ) (S E : List ℕ) (a b w : ℕ) (lab₀ op₀ bef₀ lab op le bef : List ℕ) (v : ℕ) : Type 0 where

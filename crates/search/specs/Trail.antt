@@ -103,19 +103,24 @@ trailed_root lab {bef} {w} path e l = record {
 pub trailed_fits : {lab bef : List ℕ} {w r : ℕ} {path : List ℕ} → w < 1280 → Trailed lab bef w r path → r ≤ 1280
 trailed_fits {lab} {w = w} h T = omega (arith, T.few, rank_within lab 1280 w h)
 
-module _ {lab bef : List ℕ} {w k : ℕ} {path : List ℕ} (R : Rooted lab bef w) (b : 0 < at bef w) (T : Trailed lab bef (at bef w - 1) k path) where
-  -- the trail to the window before leaves room for one more
-  pub trailed_room : k < 1280
-  trailed_room =
-      let z = rooted_back R b in
-      omega (arith, T.few, rank_less lab 1280 (at bef w - 1) (at lab w) (rooted_in z.0) z.1, rank_within lab 1280 w (rooted_in R))
+-- the trail to a window entered sooner leaves room for one more
+pub trailed_room : {lab bef : List ℕ} {w b r : ℕ} {path : List ℕ} → w < 1280 → b < 1280 → at lab b < at lab w → Trailed lab bef b r path → r < 1280
+trailed_room {lab} {bef} {w} {b} h k d T = omega (arith, T.few, rank_less lab 1280 b (at lab w) k d, rank_within lab 1280 w h)
 
-  pub trailed_back : Trailed lab bef w (k + 1) (set path k w)
-  trailed_back =
-      let z = rooted_back R b in
-      record {
-        some = omega arith;
-        few = omega (arith, T.few, rank_less lab 1280 (at bef w - 1) (at lab w) (rooted_in z.0) z.1);
-        trail = subst (Trail bef w []) (sym (ap (λ n. take n (set path k w)) (add-one k) ∙ take-suc-set path k w (omega (arith, trailed_room, T.long)))) (back b (trail_snoc (w ∷ []) T.trail));
-        long = length-set path k w ∙ T.long;
-      }
+-- one more than the trail to the window before
+pub trailed_back : {lab bef : List ℕ} {w r : ℕ} {path : List ℕ} → w < 1280 → 0 < at bef w → at lab (at bef w - 1) < at lab w → at bef w - 1 < 1280
+    → Trailed lab bef (at bef w - 1) r path → Trailed lab bef w (r + 1) (set path r w)
+trailed_back {lab} {bef} {w} {r} {path} h b d k T = record {
+  some = omega arith;
+  few = omega (arith, T.few, rank_less lab 1280 (at bef w - 1) (at lab w) k d);
+  trail = subst (Trail bef w []) (sym (ap (λ n. take n (set path r w)) (add-one r) ∙ take-suc-set path r w (omega (arith, trailed_room h k d T, T.long)))) (back b (trail_snoc (w ∷ []) T.trail));
+  long = length-set path r w ∙ T.long;
+}
+
+-- the same where windows are chained to the first
+module _ {lab bef : List ℕ} {w k : ℕ} {path : List ℕ} (R : Rooted lab bef w) (b : 0 < at bef w) (T : Trailed lab bef (at bef w - 1) k path) where
+  pub rooted_room : k < 1280
+  rooted_room = let z = rooted_back R b in trailed_room (rooted_in R) (rooted_in z.0) z.1 T
+
+  pub rooted_trail : Trailed lab bef w (k + 1) (set path k w)
+  rooted_trail = let z = rooted_back R b in trailed_back (rooted_in R) b z.1 (rooted_in z.0) T

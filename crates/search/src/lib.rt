@@ -196,7 +196,7 @@ pub fn begin_at(windows: &Windows, a: usize, b: usize, s: u32, d: u32) -> Option
 }
 
 // The windows that lead to w, itself the last, in travel order; how many. The rules ask for a recursion along the windows before.
-#[tactic(auto, using(crate::specs::Trail::trailed_room))]
+#[tactic(auto, using(crate::specs::Trail::rooted_room))]
 pub fn trail(before: &[u16; 1280], label: &[u32; 1280], w: usize, path: &mut [u16; 1280]) -> usize
     requires rooted { Rooted label.now before.now w }
     requires path_len { length path.old ≡ 1280 }

@@ -215,3 +215,6 @@ module _ {op le : List ℕ} (B : Blocks op le) {n x : ℕ} (b : n ≤ 40) (found
 
 pub offer_took : (lab op bef : List ℕ) (v w t : ℕ) → t < get_or lab v 0 → Offered lab op bef v w t (set lab v t) (set op v t) (set bef v (w + 1))
 offer_took lab op bef v w t h = record { took = λ _. (refl, refl, refl); left = λ k. absurd (omega arith) }
+
+pub offer_left : (lab op bef : List ℕ) (v w t : ℕ) → get_or lab v 0 ≤ t → Offered lab op bef v w t lab op bef
+offer_left lab op bef v w t h = record { took = λ k. absurd (omega arith); left = λ _. (refl, refl, refl) }

@@ -425,3 +425,7 @@ rooted_in (link v h b d r) = h
 pub rooted_back : {lab bef : List ℕ} {v : ℕ} → Rooted lab bef v → 0 < get_or bef v 0 → Rooted lab bef (bef_of bef v) × (get_or lab (bef_of bef v) 0 < get_or lab v 0)
 rooted_back (root v h e) z = absurd (omega arith)
 rooted_back (link v h b d r) z = (r, d)
+
+pub rooted_small : {lab bef : List ℕ} {v : ℕ} → Rooted lab bef v → get_or bef v 0 ≤ 1280
+rooted_small (root v h e) = omega arith
+rooted_small (link v h b d r) = omega (arith, rooted_in r)

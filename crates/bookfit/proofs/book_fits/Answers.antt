@@ -88,7 +88,7 @@ first_barred-i-requires-clause-by_place c =
 
 pub returns-then-not-exchange_kept : goal.returns-then-not-exchange_kept
 returns-then-not-exchange_kept c =
-    book_barred (running (goal.at.returns-then-not-exchange_kept c).In_default-first_broken) c.all_windows.ensures c.in-Some-all_windows.is c.first_barred-i.ensures
+    book_barred (running (goal.at.returns-then-not-exchange_kept c).In_default-first_broken) (c.all_windows.ensures.fits _ c.in-Some-all_windows.is) c.first_barred-i.ensures
 
 pub returns : goal.returns
 returns c =
