@@ -43,7 +43,7 @@ pub fn page_flat(
 {
     let mut ways = Ways::default();
     let mut windows = Windows::default();
-    vet::vet(yard, &mut ways, rows, &mut windows)?;
+    windows.count = vet::vet(yard, &mut ways, rows, &mut windows)?;
     page_sound(yard.places, rows, size, c, out)
 }
 

@@ -71,7 +71,8 @@ pub fn offer(nodes: &mut Nodes, v: usize, w: usize, t: u32)
         nodes.live[v] = t;
         nodes.before[v] = (w + 1) as u16;
         let k = v / 32;
-        if t < nodes.least[k] {
+        let least = nodes.least[k];
+        if t < least {
             nodes.least[k] = t;
         }
     }
