@@ -597,7 +597,8 @@ pub fn book_fits(
     if let Some(i) = first_broken(rows, rows.count, unfit) {
         return Err(Refusal::BrokenRun(i + 1));
     }
-    let Some(w) = windows::all_windows(yard, rows, windows, rows.count) else {
+    let found = windows::all_windows(yard, rows, windows, rows.count);
+    let Some(w) = found else {
         let i = first_overfull(yard, rows, windows, rows.count);
         return Err(Refusal::Overfull(i));
     };

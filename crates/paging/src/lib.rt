@@ -43,11 +43,9 @@ pub fn page_flat(
 {
     let mut ways = Ways::default();
     let mut windows = Windows::default();
-    // matched, and not by `?`, so that an edit can take one arm for another (must-fail/bad_map_as_bad_book)
-    match vet::vet(yard, &mut ways, rows, &mut windows) {
-        Ok(_) => page_sound(yard.places, rows, size, c, out),
-        Err(r) => Err(r),
-    }
+    let vetted = vet::vet(yard, &mut ways, rows, &mut windows);
+    vetted?;
+    page_sound(yard.places, rows, size, c, out)
 }
 
 // The rows of the book after a cursor: they are written to the caller's list.

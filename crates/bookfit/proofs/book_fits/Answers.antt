@@ -1,6 +1,7 @@
 -- The checks in their order: what each finds is the fault, and where none finds one the book is well formed.
 use mathlib.Core.List.{[]}
 use native.Mathlib.Omega.{arith}
+use Rattle.std.proofs.Common.{rules}
 use Rattle.std.proofs.lemmas.Result.{err_from_is_err_and}
 use Rattle.bookfit.specs.Formed.{Numbered, Ordered, Running, runs_given, runs_by_place}
 use Rattle.bookfit.specs.Answer.{few_links, links_on, book_many, book_ticket, book_out, book_falls, book_broken, book_overfull, book_barred, book_good}
@@ -66,17 +67,17 @@ returns-in-Some-first_broken c =
     book_broken (ordered (goal.at.returns-in-Some-first_broken c).In_default)
     (c.in-Some-first_broken.ensures a.yard.now.places a.yard.now.links a.yard.now.dur a.yard.now.from a.yard.now.to c.in_ok-unfit.ensures.lowest)
 
-pub all_windows-requires-clause-given : goal.all_windows-requires-clause-given
-all_windows-requires-clause-given c =
-    runs_given (running (goal.at.all_windows-requires-clause-given c).In_default-first_broken)
+pub all_windows-found-requires-clause-given : goal.all_windows-found-requires-clause-given
+all_windows-found-requires-clause-given c =
+    runs_given (running (goal.at.all_windows-found-requires-clause-given c).In_default-first_broken)
 
 pub first_overfull-i-requires-clause-given : goal.first_overfull-i-requires-clause-given
 first_overfull-i-requires-clause-given c =
     runs_given (running (goal.at.first_overfull-i-requires-clause-given c).In_default-first_broken)
 
-pub returns-in_default-all_windows : goal.returns-in_default-all_windows
-returns-in_default-all_windows c =
-    book_overfull (running (goal.at.returns-in_default-all_windows c).In_default-first_broken) c.first_overfull-i.ensures
+pub returns-in_default-found : goal.returns-in_default-found
+returns-in_default-found c =
+    book_overfull (running (goal.at.returns-in_default-found c).In_default-first_broken) c.first_overfull-i.ensures
 
 pub exchange_kept-requires : goal.exchange_kept-requires
 exchange_kept-requires c =
@@ -88,8 +89,8 @@ first_barred-i-requires-clause-by_place c =
 
 pub returns-then-not-exchange_kept : goal.returns-then-not-exchange_kept
 returns-then-not-exchange_kept c =
-    book_barred (running (goal.at.returns-then-not-exchange_kept c).In_default-first_broken) (c.all_windows.ensures.fits _ c.in-Some-all_windows.is) c.first_barred-i.ensures
+    book_barred (running (goal.at.returns-then-not-exchange_kept c).In_default-first_broken) (c.all_windows-found.ensures.fits c.in-Some-found.w (search rules)) c.first_barred-i.ensures
 
 pub returns : goal.returns
 returns c =
-    book_good (running (goal.at.returns c).In_default-first_broken) c.all_windows.ensures c.in-Some-all_windows.is (c.exchange_kept.ensures.0 c.if-not-exchange_kept.false)
+    book_good (running (goal.at.returns c).In_default-first_broken) c.all_windows-found.ensures (search rules) (c.exchange_kept.ensures.0 c.if-not-exchange_kept.false)
