@@ -597,6 +597,7 @@ pub fn book_fits(
     if let Some(i) = first_broken(rows, rows.count, unfit) {
         return Err(Refusal::BrokenRun(i + 1));
     }
+    // named, so that must-fail/overfull_passes can misread it where it is tested
     let found = windows::all_windows(yard, rows, windows, rows.count);
     let Some(w) = found else {
         let i = first_overfull(yard, rows, windows, rows.count);

@@ -43,6 +43,7 @@ pub fn page_flat(
 {
     let mut ways = Ways::default();
     let mut windows = Windows::default();
+    // named, so that must-fail/bad_map_as_bad_book can change it before it is handed on
     let vetted = vet::vet(yard, &mut ways, rows, &mut windows);
     vetted?;
     page_sound(yard.places, rows, size, c, out)

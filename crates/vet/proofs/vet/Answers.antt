@@ -6,7 +6,7 @@ use Rattle.rules.specs.Gate.{Papers}
 use Rattle.vet.specs.Vetted.{Vetted, vet_book}
 use Rattle.vet.proofs.vet.Goals as goal
 
--- what is returned is what was found
+-- what vetting says of the answer found it says of the answer returned, where the two are equal
 handed_on : {g : Papers} {S : ℕ → Type 0} {v r : Result ℕ Refusal} → Vetted g S v → v ≡ r → Vetted g S r
 handed_on {g} {S} d e = subst (λ x. Vetted g S x) e d
 
